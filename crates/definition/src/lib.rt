@@ -1,0 +1,2 @@
+// Document 01 as definitions: see specs/.
+pub fn nothing() {}

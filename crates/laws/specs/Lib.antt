@@ -1,0 +1,5 @@
+-- Laws that any crate cites; nothing here is about planning.
+pub mod Tests
+pub mod Members
+pub mod Signed
+pub mod Orders

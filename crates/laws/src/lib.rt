@@ -1,0 +1,2 @@
+// Laws of tests, lists, numbers and loops: see specs/.
+pub fn nothing() {}
