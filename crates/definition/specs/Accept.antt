@@ -1,5 +1,5 @@
 -- The tests behind refusals 4 to 8 (document 01, "The book" and "Refusal numbers"), on a book as data. A test that fails gives its number.
-use mathlib.Core.Bool.{Bool, true, false, _&&_, _||_, not}
+use mathlib.Core.Bool.{Bool, true, _&&_, _||_, not}
 use mathlib.Core.List.{List, [], _∷_, _++_, map}
 use Prim.Native.Nat.{ℕ, zero, suc}
 use lib.IntN.{pos}

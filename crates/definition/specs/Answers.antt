@@ -1,5 +1,5 @@
 -- What each public call answers and leaves in lent memory (document 01, "Refusal numbers").
-use mathlib.Core.Bool.{Bool, true, false, _&&_, not}
+use mathlib.Core.Bool.{Bool, _&&_, not}
 use mathlib.Core.List.{List, [], _∷_, _++_}
 use mathlib.Core.Option.{Option, none, some}
 use Prim.Native.Nat.{ℕ, suc}

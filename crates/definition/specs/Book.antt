@@ -1,5 +1,5 @@
 -- A book as data (document 01, "The book"): its sites, its rules, and what a rule asks.
-use mathlib.Core.Bool.{Bool, true, false}
+use mathlib.Core.Bool.{Bool}
 use mathlib.Core.List.{List, [], _∷_}
 use Prim.Native.Nat.{ℕ}
 use lib.IntN.{ℤ, pos}

@@ -1,5 +1,5 @@
 -- A book on the line (document 01, "The book"): bytes in blocks, the tests behind refusals 1 to 5, and the refusal of a book.
-use mathlib.Core.Bool.{Bool, true, false, _&&_}
+use mathlib.Core.Bool.{Bool, _&&_}
 use mathlib.Core.List.{List, [], _∷_, _++_, map}
 use Prim.Native.Nat.{ℕ, zero, suc, _+_, _-_, _*_, _/_, _%_, _^_, min}
 use lib.ListN.{getD, length}

@@ -1,11 +1,11 @@
 -- Tests, their counts, and the best of them (document 01, "How a block is made"). W is a set of rules: the ascending list of their numbers.
-use mathlib.Core.Bool.{Bool, true, false, _&&_, _||_, not}
+use mathlib.Core.Bool.{Bool, _&&_, _||_, not}
 use mathlib.Core.List.{List, [], _∷_, _++_, map}
 use mathlib.Core.Option.{Option, none, some}
 use Prim.Native.Nat.{ℕ, zero, suc, _-_, min, compare, Ordering, Ordering·lt, Ordering·gt}
 use lib.Signed.{leZ}
 use lib.ListN.{length}
-use Rattle.definition.specs.Lists.{_is_, if_then_else_, _and-then_, is-less, from, upto, filter, all, any, champion, flat}
+use Rattle.definition.specs.Lists.{_is_, _and-then_, is-less, from, upto, filter, all, any, champion, flat}
 use Rattle.definition.specs.Book.{Rule, Book, rule, constrains, linked}
 use Rattle.definition.specs.Scope.{state, unavailable, matched, Scope}
 

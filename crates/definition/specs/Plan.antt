@@ -1,13 +1,13 @@
 -- Blocks, steps and the tree of a book (document 01, "How a block is made").
-use mathlib.Core.Bool.{Bool, true, false, _&&_, not}
+use mathlib.Core.Bool.{Bool, _&&_, not}
 use mathlib.Core.List.{List, [], _∷_, _++_, map}
 use mathlib.Core.Option.{Option, none, some}
 use Prim.Native.Nat.{ℕ, zero, suc, compare, Ordering, Ordering·lt, Ordering·eq, Ordering·gt}
 use lib.Dec.{isEq}
 use lib.ListN.{length}
 use Rattle.definition.specs.Lists.{_is_, if_then_else_, _and-then_, compare-signed, upto, filter, first}
-use Rattle.definition.specs.Book.{Pattern, Pair, Site, Rule, Book, site, rule, pattern-on}
-use Rattle.definition.specs.Scope.{Use, use-all, Scope, root, binds, inside, joining}
+use Rattle.definition.specs.Book.{Pattern, Rule, Book, site, rule, pattern-on}
+use Rattle.definition.specs.Scope.{use-all, Scope, root, binds, inside, joining}
 use Rattle.definition.specs.Choice.{Test, on, same, at-least, counted, deferred, choice}
 use Rattle.definition.specs.Tree.{Block, Flow, Arms, end, step, match, equal, return, no-arms, arm, nesting}
 

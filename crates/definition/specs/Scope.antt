@@ -4,7 +4,7 @@ use mathlib.Core.List.{List, [], _∷_, _++_}
 use Prim.Native.Nat.{ℕ, zero, suc}
 use lib.ListN.{getD, length, set, replicate}
 use Rattle.definition.specs.Lists.{_is_, _below_, every, if_then_else_, same-number, empty, heads, all, each}
-use Rattle.definition.specs.Book.{Pattern, Pair, Site, Rule, Book, most, site}
+use Rattle.definition.specs.Book.{Pattern, Pair, Site, Book, most, site}
 
 -- STATES, each greater than the one before
 abbrev pub unavailable : ℕ
@@ -101,13 +101,16 @@ binds s p x = every (
 unfoldable pub bound-by : Book → ℕ → Pattern → List ℕ → ℕ → Bool
 bound-by b s p st x = binds s p (site b x)
 
+unfoldable pub emit-bound : Book → ℕ → Pattern → List ℕ → List ℕ
+emit-bound b s p st = sweep (bound-by b s p) emitted (length (b .sites)) st
+
 -- In an arm the source becomes Matched, the kind 7 sites of that source and pattern become Emitted, and availability is worked out again
 unfoldable pub arm-states : Book → List ℕ → ℕ → Pattern → List ℕ
-arm-states b st s p = worked-out b (sweep (bound-by b s p) emitted (length (b .sites)) (set st s matched))
+arm-states b st s p = worked-out b (emit-bound b s p (set st s matched))
 
 unfoldable pub inside : Book → Scope → ℕ → Pattern → Scope
 inside b σ s p = record { states = arm-states b (σ .states) s p; joined = σ .joined }
 
 -- Equal joins its classes inside only
-unfoldable pub joining : Scope → ℕ → ℕ → Scope
+abbrev pub joining : Scope → ℕ → ℕ → Scope
 joining σ x y = record { states = σ .states; joined = record { a = x; b = y } ∷ σ .joined }

@@ -1,6 +1,6 @@
 -- Disjoint sets of ids (document 01, "Sets"): members, representatives and root ranks, and nothing of links.
-use mathlib.Core.Bool.{Bool, true, false}
-use mathlib.Core.List.{List, [], _∷_}
+use mathlib.Core.Bool.{Bool, false}
+use mathlib.Core.List.{List}
 use mathlib.Core.Option.{Option, none, some}
 use Prim.Native.Nat.{ℕ, _+_}
 use Rattle.definition.specs.Lists.{_is_, _below_, if_then_else_, upto, filter}

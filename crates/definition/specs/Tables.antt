@@ -1,11 +1,11 @@
 -- A book as two tables of 32-bit words (document 01, "The book"): a word a field, in record order, zero bytes left out.
-use mathlib.Core.Bool.{Bool, true, false}
+use mathlib.Core.Bool.{Bool, true}
 use mathlib.Core.List.{List, [], _∷_, map}
 use Prim.Native.Nat.{ℕ, _+_, _-_, _*_}
 use lib.IntN.{ℤ, pos, negsuc}
 use lib.ListN.{getD}
-use Rattle.definition.specs.Lists.{_is_, _below_, if_then_else_, _implies_, every, all, from, upto}
-use Rattle.definition.specs.Book.{Pattern, Pair, Site, Constraint, Rule, Book, pair-slots, impure-slots}
+use Rattle.definition.specs.Lists.{_is_, _below_, if_then_else_, every, all, from, upto}
+use Rattle.definition.specs.Book.{Pair, Site, Constraint, Rule, Book, pair-slots, impure-slots}
 
 -- word k of a list, 0 behind its end
 abbrev pub word-at : List ℕ → ℕ → ℕ

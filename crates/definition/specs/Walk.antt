@@ -1,12 +1,12 @@
 -- Readings, what matches, and the walk (document 01, "Walking").
-use mathlib.Core.Bool.{Bool, true, false, _&&_}
+use mathlib.Core.Bool.{Bool, _&&_}
 use mathlib.Core.List.{List, [], _∷_, _++_}
 use mathlib.Core.Option.{Option, none, some}
 use Prim.Native.Nat.{ℕ}
 use lib.IntN.{ℤ, pos}
 use lib.ListN.{getD}
 use Rattle.definition.specs.Lists.{_is_, if_then_else_, same-number, all}
-use Rattle.definition.specs.Book.{Pattern, Pair, Constraint, Rule, Book, rule}
+use Rattle.definition.specs.Book.{Pattern, Pair, Constraint, Book, rule}
 use Rattle.definition.specs.Tree.{Block, Flow, Arms, end, step, match, equal, return, no-arms, arm}
 
 -- A READING: for each site a pattern kind, a signed number and an identity

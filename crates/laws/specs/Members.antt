@@ -1,7 +1,7 @@
 -- Laws of members: what `all`, `any`, `filter`, `map`, `flat` and ranges say of the members of a list.
 use mathlib.Core.Path.{_≡_, refl, sym, _∙_, ap, subst}
 use mathlib.Core.Logic.{_⊎_, inl, inr}
-use mathlib.Core.Bool.{Bool, true, false, _&&_, _||_, false≢true, true≢false}
+use mathlib.Core.Bool.{Bool, true, false, false≢true, true≢false}
 use mathlib.Core.List.{List, [], _∷_, _++_, map, List·Memᴰ, List·Memᴰ·head, List·Memᴰ·tail, List·Memᴰ·not-nil, List·Memᴰ·cases-cons, List·Memᴰ·append-cases, Memᴰ·append-left, Memᴰ·append-right}
 use Prim.Native.Nat.{ℕ, zero, suc, _+_, _≤_, _<_}
 use native.Mathlib.Omega.{arith}
@@ -181,3 +181,8 @@ mem-flat-of {A} f y (x ∷ xs) m = go (List·Memᴰ·append-cases (f x) m) (mem-
     go : List·Memᴰ y (f x) ⊎ List·Memᴰ y (flat f xs) → (List·Memᴰ y (flat f xs) → (z : A) × List·Memᴰ z xs × List·Memᴰ y (f z)) → (z : A) × List·Memᴰ z (x ∷ xs) × List·Memᴰ y (f z)
     go (inl e) rec = (x, List·Memᴰ·head refl, e)
     go (inr n) rec = let r = rec n in (r .0, List·Memᴰ·tail (r .1), r .2)
+
+pub getD-mem : {A : Type 0} (l : List A) (i : ℕ) (d : A) → i < length l → List·Memᴰ (getD l i d) l
+getD-mem [] i d h = absurd (omega arith)
+getD-mem (x ∷ l) zero d h = List·Memᴰ·head refl
+getD-mem (x ∷ l) (suc i) d h = List·Memᴰ·tail (getD-mem l i d (omega arith))

@@ -7,7 +7,7 @@ use native.Mathlib.Omega.{arith}
 use lib.IntN.{ℤ, pos, negsuc}
 use lib.Dec.{isEq, isLe}
 use borrow.Author.Tests.{eqb-true, eqb-false, leb-true, leb-false, le-leb, ne-eqb, eq-eqb}
-use Rattle.definition.specs.Lists.{_and-then_, compare-signed}
+use Rattle.definition.specs.Lists.{_and-then_, compare-signed, same-number}
 
 pub record Weak {A : Type 0} (c : A → A → Ordering) : Type 0 where
   pub self : (x : A) → c x x ≡ Ordering·eq
@@ -24,7 +24,7 @@ is-lt Ordering·lt p q = refl
 is-lt Ordering·eq p q = absurd (true≢false q)
 is-lt Ordering·gt p q = absurd (false≢true p)
 
-is-eq : (o : Ordering) → isEq o ≡ true → o ≡ Ordering·eq
+pub is-eq : (o : Ordering) → isEq o ≡ true → o ≡ Ordering·eq
 is-eq Ordering·lt e = absurd (false≢true e)
 is-eq Ordering·eq e = refl
 is-eq Ordering·gt e = absurd (false≢true e)
@@ -67,6 +67,12 @@ lt≢eq e = false≢true (ap isEq e)
 gt≢eq : Ordering·gt ≡ Ordering·eq → ⊥
 gt≢eq e = false≢true (ap isEq e)
 
+pub signed-equal : (x y : ℤ) → compare-signed x y ≡ Ordering·eq → x ≡ y
+signed-equal (pos m) (pos n) e = ap pos (eq-of m n e)
+signed-equal (pos m) (negsuc n) e = absurd (gt≢eq e)
+signed-equal (negsuc m) (pos n) e = absurd (lt≢eq e)
+signed-equal (negsuc m) (negsuc n) e = ap negsuc (sym (eq-of n m e))
+
 pub signed-weak : Weak compare-signed
 signed-weak = record { self = self; flip = flip; back = back; less = less; less-same = less-same; same-less = same-less; same-same = same-same }
   where
@@ -95,20 +101,20 @@ signed-weak = record { self = self; flip = flip; back = back; less = less; less-
     less (negsuc m) (negsuc n) (pos k) e f = refl
     less (negsuc m) (negsuc n) (negsuc k) e f = number-weak .less k n m f e
 
-    same : (x y : ℤ) → compare-signed x y ≡ Ordering·eq → x ≡ y
-    same (pos m) (pos n) e = ap pos (eq-of m n e)
-    same (pos m) (negsuc n) e = absurd (gt≢eq e)
-    same (negsuc m) (pos n) e = absurd (lt≢eq e)
-    same (negsuc m) (negsuc n) e = ap negsuc (sym (eq-of n m e))
-
     less-same : (x y z : ℤ) → compare-signed x y ≡ Ordering·lt → compare-signed y z ≡ Ordering·eq → compare-signed x z ≡ Ordering·lt
-    less-same x y z e f = subst (λ k. compare-signed x k ≡ Ordering·lt) (same y z f) e
+    less-same x y z e f = subst (λ k. compare-signed x k ≡ Ordering·lt) (signed-equal y z f) e
 
     same-less : (x y z : ℤ) → compare-signed x y ≡ Ordering·eq → compare-signed y z ≡ Ordering·lt → compare-signed x z ≡ Ordering·lt
-    same-less x y z e f = subst (λ k. compare-signed k z ≡ Ordering·lt) (sym (same x y e)) f
+    same-less x y z e f = subst (λ k. compare-signed k z ≡ Ordering·lt) (sym (signed-equal x y e)) f
 
     same-same : (x y z : ℤ) → compare-signed x y ≡ Ordering·eq → compare-signed y z ≡ Ordering·eq → compare-signed x z ≡ Ordering·eq
-    same-same x y z e f = subst (λ k. compare-signed x k ≡ Ordering·eq) (same y z f) e
+    same-same x y z e f = subst (λ k. compare-signed x k ≡ Ordering·eq) (signed-equal y z f) e
+
+pub same-number-equal : (x y : ℤ) → same-number x y ≡ true → x ≡ y
+same-number-equal x y e = signed-equal x y (is-eq (compare-signed x y) e)
+
+pub same-number-self : (x : ℤ) → same-number x x ≡ true
+same-number-self x = ap isEq (signed-weak .self x)
 
 -- by a key
 pub by-key : {A B : Type 0} (f : A → B) (c : B → B → Ordering) → Weak c → Weak (λ (x y : A). c (f x) (f y))
@@ -132,7 +138,7 @@ then-gt Ordering·lt p e = absurd (lt≢gt e)
 then-gt Ordering·eq p e = inr (refl, e)
 then-gt Ordering·gt p e = inl refl
 
-then-eq : (o p : Ordering) → _and-then_ o p ≡ Ordering·eq → (o ≡ Ordering·eq) × (p ≡ Ordering·eq)
+pub then-eq : (o p : Ordering) → _and-then_ o p ≡ Ordering·eq → (o ≡ Ordering·eq) × (p ≡ Ordering·eq)
 then-eq Ordering·lt p e = absurd (lt≢eq e)
 then-eq Ordering·eq p e = (refl, e)
 then-eq Ordering·gt p e = absurd (gt≢eq e)

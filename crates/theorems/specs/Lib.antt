@@ -1,0 +1,25 @@
+-- Read Demands first: it says what is proved here. Proved puts it together; the other files show it step by step.
+pub mod Partition
+pub mod Choices
+pub mod Patterns
+pub mod States
+pub mod Accepted
+pub mod ArmStates
+pub mod Classes
+pub mod RightSteps
+pub mod Frame
+pub mod Built
+pub mod WalkRight
+pub mod ReturnedOnce
+pub mod LetsBind
+pub mod BoundBeforeUse
+pub mod NestingEnough
+pub mod ReadBack
+pub mod WellFormed
+pub mod LetLists
+pub mod Lean
+pub mod WordBound
+pub mod Root
+pub mod Refusals
+pub mod Demands
+pub mod Proved

@@ -1,0 +1,4 @@
+// What the tree of every accepted book obeys: specs/Demands.antt states it.
+ghost use Rattle.theorems.specs.Proved.{demands};
+
+pub fn nothing() {}
