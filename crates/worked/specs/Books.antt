@@ -112,9 +112,11 @@ book-short = head 1 0
 abbrev pub book-kind-8 : List ℕ
 book-kind-8 = book (site 8 [] ∷ []) []
 
--- 5: byte 10 of a rule is its constraint count
+-- 5: byte 10 of a rule is its constraint count; a fifth constraint, read from the zeros behind the fourth, would break no rule
 abbrev pub book-count-5 : List ℕ
-book-count-5 = book usual-sites (set (rule 0 1 2 (is-variant 0 1 0 ∷ []) []) 10 5 ∷ [])
+book-count-5 =
+    let four-ints = is-int 1 7 ∷ is-int 2 7 ∷ is-int 3 7 ∷ is-int 4 7 ∷ [] in
+    book (argument ∷ argument ∷ argument ∷ argument ∷ argument ∷ []) (set (rule 0 1 2 four-ints []) 10 5 ∷ [])
 
 -- 6: Variant 1 of site 0 with no field and with two
 abbrev pub book-two-field-counts : List ℕ

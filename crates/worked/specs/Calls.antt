@@ -5,19 +5,21 @@ use mathlib.Core.Option.{Option, none, some}
 use Prim.Native.Nat.{ℕ}
 use Rattle.definition.specs.Walk.{Reading, Hit}
 use Rattle.definition.specs.Sets.{Sets}
-use Rattle.definition.specs.Answers.{Answer, refused, answered, Outcome, planned, walked, find-answer, same-answer, remove-answer}
+use Rattle.definition.specs.Answers.{Answer, refused, answered, Outcome, planned, walked, merge-answer, find-answer, same-answer, remove-answer}
 
--- plan a book in a room; walk words by a reading; ask a store for an id's representative, whether two ids are in one set, for the members of an id's set
+-- plan a book in a room; walk words by a reading; merge two ids; ask a store for the representative of an id, whether two ids are in one set, and for the members of a set to be removed
 pub data Call : Type 0 where
   plan : List ℕ → List ℕ → Call
   walk : List ℕ → Reading → Call
+  merge : ℕ → ℕ → Call
   find : ℕ → Sets → Call
   same : ℕ → ℕ → Sets → Call
-  members : ℕ → Sets → Call
+  remove : ℕ → Sets → Call
 
 pub data Reply : Type 0 where
   planning : Outcome → Reply
   walking : Answer (Option Hit) → Reply
+  merging : Answer ℕ → Reply
   finding : Answer (Option ℕ) → Reply
   comparing : Answer Bool → Reply
   removing : Answer (List ℕ) → Reply
@@ -25,16 +27,17 @@ pub data Reply : Type 0 where
 abbrev pub reply : Call → Reply
 reply (plan book room) = planning (planned book room)
 reply (walk words d) = walking (walked words d)
+reply (merge x y) = merging (merge-answer x y)
 reply (find x s) = finding (find-answer x s)
 reply (same x y s) = comparing (same-answer x y s)
-reply (members x s) = removing (remove-answer x s)
+reply (remove x s) = removing (remove-answer x s)
 
 -- a row of the table: a call, and what it has to come to
 pub record Row : Type 0 where
   pub call : Call
   pub due : Reply
 
-infix 5 _gives_
+infix 68 _gives_
 abbrev pub _gives_ : Call → Reply → Row
 c gives r = record { call = c; due = r }
 
