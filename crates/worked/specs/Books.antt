@@ -1,5 +1,5 @@
 -- The worked books A to I in bytes, and the words of their trees (document 01, "Worked books"); then the books that are refused.
-use mathlib.Core.List.{List, [], _∷_, _++_}
+use mathlib.Core.List.{List, [], _∷_}
 use Prim.Native.Nat.{ℕ}
 use lib.ListN.{take, set}
 use Rattle.worked.specs.Layout.{minus, site, bound-site, constraint, pair, rule, head, book}

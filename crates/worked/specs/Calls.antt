@@ -1,6 +1,6 @@
 -- The calls that stand in the table, and what the definition replies to each.
 use mathlib.Core.Bool.{Bool}
-use mathlib.Core.List.{List, [], _∷_}
+use mathlib.Core.List.{List}
 use mathlib.Core.Option.{Option, none, some}
 use Prim.Native.Nat.{ℕ}
 use Rattle.definition.specs.Walk.{Reading, Hit}

@@ -1,7 +1,5 @@
 -- Replies with every definition open: `computed` is what the table's proof computes with, and it is the reply of the definitions.
 use mathlib.Core.Path.{_≡_, refl, ap}
-use mathlib.Core.List.{List, [], _∷_, map}
-use Prim.Native.Nat.{ℕ}
 use Rattle.definition.specs.Lists.{every}
 use Rattle.definition.specs.Book.{no-site, no-rule, site, rule, is-on, constrains, pattern-on, linked}
 use Rattle.definition.specs.Tables.{source-at, site-at, constraint-at, pair-at, impure-at, rule-at, book-of, is-zero, site-tidy, rule-tidy}
@@ -19,7 +17,20 @@ use Rattle.worked.specs.Calls.{Call, plan, walk, merge, find, same, remo
 use Rattle.worked.specs.Quick.{tally, zero-first, sums-by, framed-by, frames-by, sites-by, rules-by, book-by, refusal-by, planned-by, through, planned-through}
 
 unfoldable pub computed : Call → Reply
-unfolding every no-site no-rule site rule is-on constrains pattern-on linked source-at site-at constraint-at pair-at impure-at rule-at book-of is-zero site-tidy rule-tidy block-count length-ok blocks-wanted frame site-fields constraint-fields id-field rule-fields site-gap rule-gap site-gaps rule-gaps sites-pass rules-pass shape-ok twins smaller-than no-twin site-ok sites-ok pattern-ok constraint-ok pair-ok rule-ok rules-ok fields-agree constraints-of agrees-with fields-ok pair-apart apart apart-ok grants granted sound-below sound-from site-of ends named sound sound-ok is-there ready worked-out never-listed mark add-let use-below use-site use-all nowhere root binds bound-by arm-states inside joining pairs-with tests has is-open at-least no-bar counts counted stays deferred rule-has is-candidate candidates better best choice outranks uses-of return-steps returns compare-patterns same-pattern asks-for asking stands-at place-at places arms flow steps block tree let-words pattern-words block-words step-words flow-words arm-words words id-ok read-lets read-places read-pattern read-arm read-flow read-tagged read-step read-counted read-framed read-block holds agree hits flow-hits arm-hits walk-block sites-in flow-sites arm-sites is-member members written one-length covers walked known mergeable merge-answer find-answer same-answer merged-sets remove-answer sets-left tally zero-first sums-by framed-by frames-by sites-by rules-by book-by refusal-by planned-by
+unfolding every
+    no-site no-rule site rule is-on constrains pattern-on linked
+    source-at site-at constraint-at pair-at impure-at rule-at book-of is-zero site-tidy rule-tidy
+    block-count length-ok blocks-wanted frame site-fields constraint-fields id-field rule-fields site-gap rule-gap site-gaps rule-gaps sites-pass rules-pass
+    shape-ok twins smaller-than no-twin site-ok sites-ok pattern-ok constraint-ok pair-ok rule-ok rules-ok fields-agree constraints-of agrees-with fields-ok pair-apart apart apart-ok grants granted sound-below sound-from site-of ends named sound sound-ok
+    is-there ready worked-out never-listed mark add-let use-below use-site use-all nowhere root binds bound-by arm-states inside joining
+    pairs-with tests has is-open at-least no-bar counts counted stays deferred rule-has is-candidate candidates better best choice
+    outranks uses-of return-steps returns compare-patterns same-pattern asks-for asking stands-at place-at places arms flow steps block tree
+    let-words pattern-words block-words step-words flow-words arm-words words
+    id-ok read-lets read-places read-pattern read-arm read-flow read-tagged read-step read-counted read-framed read-block
+    holds agree hits flow-hits arm-hits walk-block sites-in flow-sites arm-sites
+    is-member members
+    written one-length covers walked known mergeable merge-answer find-answer same-answer merged-sets remove-answer sets-left
+    tally zero-first sums-by framed-by frames-by sites-by rules-by book-by refusal-by planned-by
 computed (plan book room) = planning (planned-by through book room)
 computed (walk ws d) = reply (walk ws d)
 computed (merge x y) = reply (merge x y)

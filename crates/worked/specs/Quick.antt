@@ -1,5 +1,5 @@
 -- Planning with bytes read front to back, where the definition counts to each byte from the first: the same outcome for all bytes, in few enough steps to compute whole books.
-use mathlib.Core.Bool.{Bool, true, false, _&&_}
+use mathlib.Core.Bool.{Bool, true, _&&_}
 use mathlib.Core.Path.{_≡_, refl, sym, _∙_, ap}
 use mathlib.Core.List.{List, [], _∷_, _++_, map}
 use Prim.Native.Nat.{ℕ, zero, suc, _+_, _-_, _*_, _%_, _^_}

@@ -1,5 +1,5 @@
 -- The worked books A to J as one table of calls and replies (document 01, "Worked books" and "Refusal numbers").
-use mathlib.Core.Bool.{true, false}
+use mathlib.Core.Bool.{true}
 use mathlib.Core.Path.{_≡_, refl, _∙_}
 use mathlib.Core.List.{List, [], _∷_, _++_, map}
 use mathlib.Core.Option.{none, some}
