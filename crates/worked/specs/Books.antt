@@ -104,9 +104,12 @@ book-cut = take 511 book-B
 abbrev pub book-changed : List ℕ
 book-changed = set book-B 516 1
 
--- 3: the head names a site, and there is no block of sites
+-- 3: the head names a site, and there is no block of sites; the 512 bytes of B's head
 abbrev pub book-short : List ℕ
 book-short = head 1 0
+
+abbrev pub book-head : List ℕ
+book-head = take 512 book-B
 
 -- 4: a site of kind 8
 abbrev pub book-kind-8 : List ℕ

@@ -7,7 +7,8 @@ use Rattle.definition.specs.Walk.{Reading, Hit}
 use Rattle.definition.specs.Sets.{Sets}
 use Rattle.definition.specs.Answers.{Answer, refused, answered, Outcome, planned, walked, merge-answer, find-answer, same-answer, remove-answer}
 
--- plan a book in a room; walk words by a reading; merge two ids; ask a store for the representative of an id, whether two ids are in one set, and for the members of a set to be removed
+-- plan a book in a room; walk words by a reading; merge two ids; ask a store for the representative of an id, whether two ids are in one set,
+-- and for the members of the set to be removed
 pub data Call : Type 0 where
   plan : List ℕ → List ℕ → Call
   walk : List ℕ → Reading → Call
@@ -24,6 +25,7 @@ pub data Reply : Type 0 where
   comparing : Answer Bool → Reply
   removing : Answer (List ℕ) → Reply
 
+-- what the definition replies
 abbrev pub reply : Call → Reply
 reply (plan book room) = planning (planned book room)
 reply (walk words d) = walking (walked words d)
@@ -41,7 +43,7 @@ infix 68 _gives_
 abbrev pub _gives_ : Call → Reply → Row
 c gives r = record { call = c; due = r }
 
--- REPLIES AS DOCUMENT 01 SAYS THEM. So many words, and the room after it; a refusal, and the room after it
+-- REPLIES AS DOCUMENT 01 SAYS THEM. So many words, or a refusal by its number, and what is then in the room
 abbrev pub fits : ℕ → List ℕ → Reply
 fits n room = planning (record { answer = answered n; room = room })
 

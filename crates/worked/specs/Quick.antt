@@ -1,4 +1,5 @@
--- Planning with bytes read front to back, where the definition counts to each byte from the first: the same outcome for all bytes, in few enough steps to compute whole books.
+-- Planning with bytes read front to back: the outcome of the definition for all bytes, in few enough steps to compute whole books.
+-- The definition counts to each byte from the first, so that its cost grows with the square of the length.
 use mathlib.Core.Bool.{Bool, true, _&&_}
 use mathlib.Core.Path.{_≡_, refl, sym, _∙_, ap}
 use mathlib.Core.List.{List, [], _∷_, _++_, map}
@@ -15,7 +16,7 @@ use Rattle.definition.specs.Plan.{tree}
 use Rattle.definition.specs.Tree.{words}
 use Rattle.definition.specs.Answers.{refused, Outcome, written, planned}
 
--- PLANNING BY A WAY OF READING: the sum of k words from byte o on, whether k bytes from o on are zero, and the words of the records at byte o
+-- PLANNING BY A WAY OF READING: the sum of k words from byte o on, whether k bytes from o on are zero, and the words of a record at byte o
 pub record Way : Type 0 where
   pub sum : (ℕ → ℕ) → List ℕ → ℕ → ℕ → ℕ
   pub zeros : List ℕ → ℕ → ℕ → Bool

@@ -9,7 +9,7 @@ use lib.ListN.{replicate}
 use Rattle.definition.specs.Walk.{Reading}
 use Rattle.definition.specs.Sets.{Sets, no-sets}
 use Rattle.definition.specs.Answers.{refused, answered, merged-sets, sets-left}
-use Rattle.worked.specs.Books.{book-A, words-A, book-B, words-B, book-C, words-C, book-D, words-D, book-E, words-E, book-F, words-F, book-H, words-H, book-I, book-placed, words-placed, book-empty, book-cut, book-changed, book-short, book-kind-8, book-count-5, book-two-field-counts, book-unbound}
+use Rattle.worked.specs.Books.{book-A, words-A, book-B, words-B, book-C, words-C, book-D, words-D, book-E, words-E, book-F, words-F, book-H, words-H, book-I, book-placed, words-placed, book-empty, book-cut, book-changed, book-short, book-head, book-kind-8, book-count-5, book-two-field-counts, book-unbound}
 use Rattle.worked.specs.Calls.{plan, walk, merge, find, same, remove, merging, finding, comparing, removing, reply, Row, _gives_, fits, refuses, stops-at, nothing-matches, refuses-walk}
 use Rattle.worked.specs.Compute.{computed, computed-is}
 
@@ -21,7 +21,7 @@ nines n = replicate n 9
 abbrev pub reads : ℕ → ℤ → ℕ → Reading
 reads kind number identity = record { kinds = kind ∷ 0 ∷ 0 ∷ []; numbers = number ∷ pos 0 ∷ pos 0 ∷ []; identities = identity ∷ 1 ∷ 2 ∷ [] }
 
--- one number too few; one site only
+-- a reading with a number too few, and one of one site
 abbrev pub torn : Reading
 torn = record { kinds = 2 ∷ 0 ∷ 0 ∷ []; numbers = pos 1 ∷ pos 0 ∷ []; identities = 0 ∷ 1 ∷ 2 ∷ [] }
 
@@ -61,6 +61,7 @@ table =
     ∷ plan book-cut (nines 3) gives refuses 1 (nines 3)
     ∷ plan book-changed (nines 3) gives refuses 2 (nines 3)
     ∷ plan book-short (nines 3) gives refuses 3 (nines 3)
+    ∷ plan book-head (nines 3) gives refuses 3 (nines 3)
     ∷ plan book-kind-8 (nines 3) gives refuses 4 (nines 3)
     ∷ plan book-count-5 (nines 3) gives refuses 5 (nines 3)
     ∷ plan book-two-field-counts (nines 3) gives refuses 6 (nines 3)
