@@ -3,3 +3,5 @@ pub mod Tests
 pub mod Members
 pub mod Signed
 pub mod Orders
+pub mod Ranges
+pub mod Loops
