@@ -1,11 +1,11 @@
 -- The sets of two ids become one: which root stays, and with which rank.
-use mathlib.Core.Path.{_≡_, refl, sym, _∙_, ap, ap₂}
+use mathlib.Core.Path.{_≡_, sym, _∙_, ap, ap₂}
 use mathlib.Core.List.{List, [], _∷_, map}
 use Prim.Native.Nat.{ℕ, zero, suc, _+_, _-_, _≤_, _<_}
 use native.Mathlib.Omega.{arith}
 use lib.ListN.{getD, length}
 use borrow.Author.Tests.{eq-eqb, ne-eqb, lt-ltb, le-ltb}
-use Rattle.definition.specs.Sets.{Class, unmerged, in-set, Sets, move, join, join-classes}
+use Rattle.definition.specs.Sets.{unmerged, in-set, move, join, join-classes}
 use Rattle.sets.specs.declared.Store.{Store}
 use Rattle.sets.specs.View.{class-of, view, tally, Made, Holds}
 use Rattle.sets.specs.Entries.{relabel, Moves}

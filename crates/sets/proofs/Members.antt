@@ -1,6 +1,6 @@
 -- The ids that `ids_with` collects are the members of a set: an id is a member where its entry is that of the set.
 use mathlib.Core.Path.{_≡_, refl, sym, _∙_, ap, fun-ext}
-use mathlib.Core.Bool.{Bool, true, false}
+use mathlib.Core.Bool.{Bool, false}
 use mathlib.Core.List.{List, [], _∷_, _++_, append-nil}
 use Prim.Native.Nat.{ℕ, zero, suc, _+_}
 use lib.Dec.{eqb·suc-suc, eqb·zero-suc, eqb·suc-zero}

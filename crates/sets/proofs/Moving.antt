@@ -1,8 +1,8 @@
 -- A store whose entries a are renamed to b: the set of a goes into that of b, or, where b is 0, it is removed.
 use mathlib.Core.Path.{_≡_, refl, sym, _∙_, ap, fun-ext}
 use mathlib.Core.Bool.{Bool, true, false}
-use mathlib.Core.List.{List, [], _∷_, map}
-use Prim.Native.Nat.{ℕ, zero, suc, _+_, _-_, _≤_, _<_}
+use mathlib.Core.List.{List, map}
+use Prim.Native.Nat.{ℕ, zero, suc, _+_, _<_}
 use native.Mathlib.Omega.{arith}
 use native.Mathlib.Decide.{ℕ-discrete}
 use lib.Dec.{eqb·suc-suc, eqb·zero-suc}
@@ -10,10 +10,10 @@ use lib.ListN.{getD, length, set, List·getD-map}
 use lib.Seq.{getD-set-same, getD-set-other}
 use borrow.Author.Tests.{eq-eqb, ne-eqb}
 use Rattle.definition.specs.Lists.{_is_, if_then_else_}
-use Rattle.definition.specs.Sets.{Class, unmerged, in-set, Sets, moved, move, is-member, remove}
+use Rattle.definition.specs.Sets.{unmerged, in-set, moved, move, remove}
 use Rattle.sets.specs.declared.Store.{Store}
 use Rattle.sets.specs.View.{class-of, read, view, tally, Made, Holds}
-use Rattle.sets.specs.Entries.{relabel, Moves, has-entry}
+use Rattle.sets.specs.Entries.{relabel, has-entry}
 use Rattle.sets.proofs.Tallies.{tally-into, tally-else}
 use Rattle.sets.proofs.Members.{member-entry}
 

@@ -1,6 +1,5 @@
 -- `sets::told_of` meets its contract: at each return the tests that led there are those of the definition.
-use mathlib.Core.Path.{refl, sym, ap}
-use native.Mathlib.Omega.{arith}
+use mathlib.Core.Path.{sym, ap}
 use borrow.Author.Needs.{needs}
 use borrow.Author.Tests.{le-ltb, lt-ltb}
 use Rattle.definition.specs.Answers.{known, same-answer}

@@ -1,5 +1,4 @@
 -- `sets::Store::join` meets its contract: at each way out by the law of that way (`proofs/Joining.antt`).
-use Prim.Native.Nat.{_<_}
 use mathlib.Core.Path.{_≡_}
 use native.Mathlib.Omega.{arith}
 use lib.ListN.{length}
@@ -7,8 +6,6 @@ use borrow.Author.Needs.{needs}
 use Rattle.sets.proofs.Joining.{entry, rank-of, Rooted, rooted, grown, join-same, join-second, join-first, join-tie}
 use Rattle.sets.proofs.Store.join.Statement.{statement}
 use Rattle.sets.proofs.Store.join.Tie as tie
-use Rattle.sets.proofs.Store.join.Reads as reads
-use Rattle.sets.proofs.Store.join.Lts as lts
 
 at-x : (b : tie.Start) → Rooted (b .args .self) (entry (b .args .self) (b .args .x))
 at-x b = rooted (b .args .self) (b .pre .0) (b .args .x) (b .pre .1 .1 .0)

@@ -13,8 +13,6 @@ use Rattle.sets.specs.View.{view}
 use Rattle.sets.proofs.Entering.{enter-some, enter-keeps}
 use Rattle.sets.proofs.Store.merge.Statement.{statement}
 use Rattle.sets.proofs.Store.merge.Tie as tie
-use Rattle.sets.proofs.Store.merge.Reads as reads
-use Rattle.sets.proofs.Store.merge.Lts as lts
 
 returns : tie.Need-returns
 unfolding known every mergeable merge-answer merged-sets

@@ -1,9 +1,8 @@
 -- `sets::Store::remove_set_of` meets its contract: `ids_with` lists the members, and renaming their entry to 0 removes them.
 use Prim.Native.Nat.{ℕ}
-use mathlib.Core.Path.{_≡_, refl, sym, ap, _∙_}
-use mathlib.Core.List.{List, []}
+use mathlib.Core.Path.{_≡_, refl, ap, _∙_}
 use native.Mathlib.Omega.{arith}
-use lib.ListN.{length, getD}
+use lib.ListN.{length}
 use borrow.Author.Needs.{needs}
 use borrow.Author.Tests.{le-ltb, lt-ltb}
 use Rattle.definition.specs.Sets.{unmerged}
@@ -15,8 +14,6 @@ use Rattle.sets.proofs.Members.{ids-members, no-members, none-removed}
 use Rattle.sets.proofs.Moving.{removes}
 use Rattle.sets.proofs.Store.remove_set_of.Statement.{statement}
 use Rattle.sets.proofs.Store.remove_set_of.Tie as tie
-use Rattle.sets.proofs.Store.remove_set_of.Reads as reads
-use Rattle.sets.proofs.Store.remove_set_of.Lts as lts
 
 returns : tie.Need-returns
 unfolding known remove-answer sets-left
