@@ -46,6 +46,12 @@ module _ (s : Store) (made : Made s) (a b : ℕ) (n : _≡_ {A = ℕ} 0 a → �
 -- TWO SETS BECOME ONE: the root p goes, the root q stays, and its rank is m
 module _ (s : Store) (made : Made s) (p q m : ℕ) (n : p ≡ q → ⊥) (hk : q < length (s .rank)) (hq : getD (s .root) q 0 ≡ suc q)
     (small : m < tally (suc p) (s .root) + tally (suc q) (s .root)) where
+  some : _≡_ {A = ℕ} 0 (suc p) → ⊥
+  some e = omega arith
+
+  apart : suc p ≡ suc q → ⊥
+  apart e = n (omega arith)
+
   moved-class : (v : ℕ) → class-of (set (s .rank) q m) (relabel (suc p) (suc q) v) ≡ moved p q m (class-of (s .rank) v)
   moved-class zero = rw (eqb·zero-suc p)
   moved-class (suc t) = rw (eqb·suc-suc t p) (go (ℕ-discrete t p))
@@ -62,22 +68,22 @@ module _ (s : Store) (made : Made s) (p q m : ℕ) (n : p ≡ q → ⊥) (hk : q
           at (no g) = rw (ne-eqb t q g) (ap (in-set t) (getD-set-other (s .rank) q t m 0 g))
 
   moved-view : (z : ℕ) → read (map (relabel (suc p) (suc q)) (s .root)) (set (s .rank) q m) z ≡ move p q m (view s) z
-  moved-view z = rw (renamed (s .root) (suc p) (suc q) (λ e. omega arith) z) (moved-class (getD (s .root) z 0))
+  moved-view z = rw (renamed (s .root) (suc p) (suc q) some z) (moved-class (getD (s .root) z 0))
 
   moved-roots : (z r : ℕ) → getD (map (relabel (suc p) (suc q)) (s .root)) z 0 ≡ suc r → getD (map (relabel (suc p) (suc q)) (s .root)) r 0 ≡ suc r
   moved-roots z r h = go (ℕ-discrete r q)
     where
       go : Dec (r ≡ q) → getD (map (relabel (suc p) (suc q)) (s .root)) r 0 ≡ suc r
-      go (yes e) = rw e (stays (s .root) (suc p) (suc q) (λ y. omega arith) q (suc q) (λ y. n (omega arith)) hq)
-      go (no g) = other-roots s made (suc p) (suc q) (λ y. omega arith) (λ y. n (omega arith)) z r (λ y. g (omega arith)) h
+      go (yes e) = rw e (stays (s .root) (suc p) (suc q) some q (suc q) (λ y. apart (sym y)) hq)
+      go (no g) = other-roots s made (suc p) (suc q) some apart z r (λ y. g (omega arith)) h
 
   moved-ranks : (r : ℕ) → getD (map (relabel (suc p) (suc q)) (s .root)) r 0 ≡ suc r → getD (set (s .rank) q m) r 0 < tally (suc r) (map (relabel (suc p) (suc q)) (s .root))
   moved-ranks r h = go (ℕ-discrete r q)
     where
       go : Dec (r ≡ q) → getD (set (s .rank) q m) r 0 < tally (suc r) (map (relabel (suc p) (suc q)) (s .root))
-      go (yes e) = rw (e, getD-set-same (s .rank) q m 0 hk, tally-into (suc p) (suc q) (λ y. n (omega arith)) (s .root)) small
+      go (yes e) = rw (e, getD-set-same (s .rank) q m 0 hk, tally-into (suc p) (suc q) apart (s .root)) small
       go (no g) =
-          rw (getD-set-other (s .rank) q r m 0 g) (other-ranks s made (suc p) (suc q) (λ y. omega arith) (λ y. n (omega arith)) r (λ y. g (omega arith)) h)
+          rw (getD-set-other (s .rank) q r m 0 g) (other-ranks s made (suc p) (suc q) some apart r (λ y. g (omega arith)) h)
 
   pub moves : (r : Store) → r .root ≡ map (relabel (suc p) (suc q)) (s .root) → r .rank ≡ set (s .rank) q m → Holds r (move p q m (view s))
   moves r er ek =
@@ -96,11 +102,13 @@ module _ (s : Store) (made : Made s) (x : ℕ) (n : _≡_ {A = ℕ} (getD (s .ro
       rw (renamed (s .root) (getD (s .root) x 0) 0 (λ e. n (sym e)) z, ← member-entry s x n z)
       (gone-class (s .rank) (getD (s .root) z 0 is getD (s .root) x 0) (getD (s .root) z 0))
 
-  pub removes : Holds (record { root = map (relabel (getD (s .root) x 0) 0) (s .root); rank = s .rank }) (remove x (view s))
-  removes = record {
-    sets = fun-ext gone-view;
-    made = record {
-      roots = λ z r h. other-roots s made (getD (s .root) x 0) 0 (λ e. n (sym e)) n z r (λ y. omega arith) h;
-      ranks = λ r h. other-ranks s made (getD (s .root) x 0) 0 (λ e. n (sym e)) n r (λ y. omega arith) h;
-    };
-  }
+  pub removes : (l : List ℕ) → l ≡ map (relabel (getD (s .root) x 0) 0) (s .root) → Holds (record { root = l; rank = s .rank }) (remove x (view s))
+  removes l e =
+      rw e
+      (record {
+        sets = fun-ext gone-view;
+        made = record {
+          roots = λ z r h. other-roots s made (getD (s .root) x 0) 0 (λ e. n (sym e)) n z r (λ y. omega arith) h;
+          ranks = λ r h. other-ranks s made (getD (s .root) x 0) 0 (λ e. n (sym e)) n r (λ y. omega arith) h;
+        };
+      })

@@ -2,10 +2,10 @@
 ghost use mathlib.Core.Path.{_≡_};
 ghost use mathlib.Core.List.{map};
 ghost use Prim.Native.Nat.{_≤_, _<_};
-ghost use Rattle.definition.specs.Sets.{unmerged, no-sets, enter, join};
+ghost use Rattle.definition.specs.Sets.{no-sets, enter, join};
 ghost use Rattle.sets.specs.View.{view, Made, Holds};
 ghost use Rattle.sets.specs.Promises.{Finds, Merges, Sames, Tells, Removes};
-ghost use Rattle.sets.specs.Entries.{relabel, Moves, Collects};
+ghost use Rattle.sets.specs.Entries.{relabel, Moves, Joinable, Collects};
 
 // A store of disjoint sets. It is made by `Store::empty` and by the calls below, and by nothing else.
 pub struct Store {
@@ -171,9 +171,7 @@ impl Store {
 
     // The sets of x and y become one.
     fn join(self, x: usize, y: usize) -> Store
-        requires { ⌜ Made self ⌝ }
-        requires { ⌜ (x < 252) × (y < 252) ⌝ }
-        requires { ⌜ (view self x ≡ unmerged → ⊥) × (view self y ≡ unmerged → ⊥) ⌝ }
+        requires { ⌜ Joinable self x y ⌝ }
         ensures { λ r. ⌜ Holds r (join x y (view self)) ⌝ }
     {
         let root = self.root;

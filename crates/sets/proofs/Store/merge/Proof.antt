@@ -48,17 +48,15 @@ join-requires c κs =
     let y = b .args .y in
     let one = c .before .enter .ensures .sets in
     let two = c .enter2 .ensures .sets in
-    let at-x : view (c .before .enter .result) x ≡ unmerged → ⊥ =
-    λ e. enter-some (view (b .args .self)) x (ap (λ (s : Sets). s x) (sym one) ∙ e) in (
-      c .enter2 .ensures .made,
-      (
-        omega arith,
-        (
-          λ e. enter-keeps (view (c .before .enter .result)) x y at-x (ap (λ (s : Sets). s x) (sym two) ∙ e),
-          λ e. enter-some (view (c .before .enter .result)) y (ap (λ (s : Sets). s y) (sym two) ∙ e),
-        ),
-      ),
-    )
+    let first : view (c .before .enter .result) x ≡ unmerged → ⊥ =
+    λ e. enter-some (view (b .args .self)) x (ap (λ (s : Sets). s x) (sym one) ∙ e) in
+    record {
+      made = c .enter2 .ensures .made;
+      x-id = omega arith;
+      y-id = omega arith;
+      x-merged = λ e. enter-keeps (view (c .before .enter .result)) x y first (ap (λ (s : Sets). s x) (sym two) ∙ e);
+      y-merged = λ e. enter-some (view (c .before .enter .result)) y (ap (λ (s : Sets). s y) (sym two) ∙ e);
+    }
 
 good : (x y : ℕ) → x < most → y < most → (x ≡ y → ⊥) → mergeable x y ≡ true
 unfolding known every mergeable

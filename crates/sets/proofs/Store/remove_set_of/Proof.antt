@@ -53,7 +53,7 @@ returns-3 c =
     let b = d .before .before .before .before in
     let h = lt-ltb _ _ (d .before .before .before .if1 .left) in
     let ms = ids-members (b .args .self) (b .args .x) (d .if2 .left) in
-    let left = rw (← c .relabelled .ensures) at (removes (b .args .self) (b .pre) (b .args .x) (d .if2 .left)) in
+    let left = removes (b .args .self) (b .pre) (b .args .x) (d .if2 .left) (c .relabelled .result) (c .relabelled .ensures) in
     record {
       answer = rw h (ap Removed.Members (c .before .before .ids-with .ensures .count ∙ ap length ms));
       members = rw h (c .before .before .ids-with .ensures .ids ∙ ap padded ms);
