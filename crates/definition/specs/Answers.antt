@@ -68,9 +68,12 @@ find-answer x s = if known x then answered (representative (s x)) else refused 1
 unfoldable pub same-answer : ℕ → ℕ → Sets → Answer Bool
 same-answer x y s = if known x && known y then answered (in-same-set x y s) else refused 16
 
--- `merge` has nothing to tell but that it was done: 0
-unfoldable pub merge-answer : ℕ → ℕ → Answer ℕ
-merge-answer x y = if mergeable x y then answered 0 else refused 16
+-- `merge` has nothing to tell but that it was done
+pub data Done : Type 0 where
+  done : Done
+
+unfoldable pub merge-answer : ℕ → ℕ → Answer Done
+merge-answer x y = if mergeable x y then answered done else refused 16
 
 unfoldable pub merged-sets : ℕ → ℕ → Sets → Sets
 merged-sets x y s = if mergeable x y then merge x y s else s

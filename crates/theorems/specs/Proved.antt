@@ -16,6 +16,7 @@ use Rattle.definition.specs.Tree.{nesting, words, returned}
 use Rattle.definition.specs.Walk.{Reading, Hit, walk}
 use Rattle.laws.specs.Tests.{clash}
 use Rattle.laws.specs.Members.{mem-from, from-bounds}
+use Rattle.laws.specs.Ranges.{from-length}
 use Rattle.laws.specs.Totals.{only, total, total-times, times-from, times-past}
 use Rattle.theorems.specs.Partition.{Right, Top}
 use Rattle.theorems.specs.Accepted.{good, rule-in, rule-of}
@@ -29,7 +30,7 @@ use Rattle.theorems.specs.ReadBack.{well-formed, block-read}
 use Rattle.theorems.specs.WellFormed.{block-fine}
 use Rattle.theorems.specs.Lean.{block-lean}
 use Rattle.theorems.specs.WordBound.{words-small}
-use Rattle.theorems.specs.Refusals.{Taken, from-length, taken}
+use Rattle.theorems.specs.Refusals.{Taken, taken}
 use Rattle.theorems.specs.Demands.{No-match, Highest, times, Demand-3, Sound-tree, Demands}
 
 -- a book of n constraint slots whose rules' constraints and pairs the nesting allows for

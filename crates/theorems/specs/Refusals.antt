@@ -1,18 +1,19 @@
 -- A book that is not refused has passed every test from 1 to 8.
 use mathlib.Core.Path.{_≡_, refl, _∙_, ap, subst}
 use mathlib.Core.Bool.{Bool, true, false}
-use mathlib.Core.List.{List, [], _∷_, map, List·Memᴰ}
+use mathlib.Core.List.{List, [], _∷_, List·Memᴰ}
 use Prim.Native.Nat.{ℕ, zero, suc, _+_, _≤_, _<_}
 use native.Mathlib.Omega.{arith}
 use lib.ListN.{length, getD, length-map}
 use borrow.Author.Tests.{leb-true}
-use Rattle.definition.specs.Lists.{from, upto, all}
+use Rattle.definition.specs.Lists.{upto, all}
 use Rattle.definition.specs.Book.{most, Book, Constraint, rule, no-rule}
 use Rattle.definition.specs.Tables.{constraint-start, constraint-at, rule-at, book-of, rule-word, site-tidy, rule-tidy}
 use Rattle.definition.specs.Accept.{lowest, book-tests}
 use Rattle.definition.specs.Bytes.{sites-named, rules-named, site-table, rule-table, site-gaps, rule-gaps, book-in, length-ok, sums-ok, frames-ok, sites-pass, rules-pass, site-records-ok, rule-records-ok, refusal-of}
 use Rattle.laws.specs.Tests.{both, every-at}
 use Rattle.laws.specs.Members.{mem-map-of}
+use Rattle.laws.specs.Ranges.{from-length, map-at}
 use Rattle.theorems.specs.Accepted.{Passed}
 use Rattle.theorems.specs.ReadBack.{number-ok, signed-ok}
 
@@ -29,26 +30,17 @@ pub record Taken (n : ℕ) (b : Book) : Type 0 where
   pub few-rules : length (b .rules) ≤ most
   pub numbers : (i : ℕ) (c : Constraint) → i < length (b .rules) → List·Memᴰ c (rule b i .constraints) → number-ok (c .pattern .number) ≡ true
 
--- the parts of a book that stands in tables
-pub from-length : (k n : ℕ) → length (from k n) ≡ n
-from-length k zero = refl
-from-length k (suc n) = ap suc (from-length (suc k) n)
-
-map-at : {A : Type 0} (f : ℕ → A) (k n i : ℕ) (d : A) → i < n → getD (map f (from k n)) i d ≡ f (k + i)
-map-at f k zero i d h = absurd (omega arith)
-map-at f k (suc n) zero d h = ap f (omega arith)
-map-at f k (suc n) (suc i) d h = map-at f (suc k) n i d (omega arith) ∙ ap f (omega arith)
-
+-- THE PARTS of a book that stands in tables
 module _ (n S R : ℕ) (t u : List ℕ) where
-  sites-length : length (book-of n S R t u .sites) ≡ S
+  pub sites-length : length (book-of n S R t u .sites) ≡ S
   unfolding book-of
   sites-length = length-map (upto S) _ ∙ from-length 0 S
 
-  rules-length : length (book-of n S R t u .rules) ≡ R
+  pub rules-length : length (book-of n S R t u .rules) ≡ R
   unfolding book-of
   rules-length = length-map (upto R) _ ∙ from-length 0 R
 
-  rule-is : (i : ℕ) → i < R → rule (book-of n S R t u) i ≡ rule-at n u i
+  pub rule-is : (i : ℕ) → i < R → rule (book-of n S R t u) i ≡ rule-at n u i
   unfolding book-of rule
   rule-is i h = map-at (rule-at n u) 0 R i no-rule h ∙ ap (rule-at n u) (omega arith)
 

@@ -8,8 +8,9 @@ use native.Mathlib.Omega.{arith}
 use lib.Dec.{ltb}
 use lib.ListN.{length, length-map}
 use borrow.Author.Tests.{lt-ltb, eq-eqb}
-use Rattle.definition.specs.Lists.{from, upto, all, first, keep-first, if_then_else_, each}
+use Rattle.definition.specs.Lists.{upto, all, first, keep-first, if_then_else_, each}
 use Rattle.laws.specs.Tests.{and}
+use Rattle.laws.specs.Ranges.{from-length}
 use Rattle.laws.specs.Members.{all-from, from-bounds}
 use Rattle.definition.specs.Book.{Book, Pattern, Constraint, site, rule, constrains, pattern-on, linked}
 use Rattle.definition.specs.Tree.{Block, Flow, step, match, equal}
@@ -62,10 +63,6 @@ first-in q (x ∷ xs) n h k = go (q x) (first-in q xs n (λ y m. h y (List·Mem�
     go : (t : Bool) → place-ok (first q xs) ≡ true → place-ok (keep-first t x (first q xs)) ≡ true
     go true r = id-fits x (let z = h x (List·Memᴰ·head refl) in omega arith)
     go false r = r
-
-from-length : (k n : ℕ) → length (from k n) ≡ n
-from-length k zero = refl
-from-length k (suc n) = ap suc (from-length (suc k) n)
 
 module _ (b : Book) (g : Good b) (few-sites : length (b .sites) ≤ 252) (few-rules : length (b .rules) ≤ 252)
     (patterns-ok : (i : ℕ) (c : Constraint) → i < length (b .rules) → List·Memᴰ c (rule b i .constraints) → (pattern-ok (c .pattern) ≡ true) × (number-ok (c .pattern .number) ≡ true)) where

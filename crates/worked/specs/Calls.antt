@@ -5,7 +5,7 @@ use mathlib.Core.Option.{Option, none, some}
 use Prim.Native.Nat.{ℕ}
 use Rattle.definition.specs.Walk.{Reading, Hit}
 use Rattle.definition.specs.Sets.{Sets}
-use Rattle.definition.specs.Answers.{Answer, refused, answered, Outcome, planned, walked, merge-answer, find-answer, same-answer, remove-answer}
+use Rattle.definition.specs.Answers.{Answer, refused, answered, Done, Outcome, planned, walked, merge-answer, find-answer, same-answer, remove-answer}
 
 -- plan a book in a room; walk words by a reading; merge two ids; ask a store for the representative of an id, whether two ids are in one set,
 -- and for the members of the set to be removed
@@ -20,7 +20,7 @@ pub data Call : Type 0 where
 pub data Reply : Type 0 where
   planning : Outcome → Reply
   walking : Answer (Option Hit) → Reply
-  merging : Answer ℕ → Reply
+  merging : Answer Done → Reply
   finding : Answer (Option ℕ) → Reply
   comparing : Answer Bool → Reply
   removing : Answer (List ℕ) → Reply

@@ -8,7 +8,7 @@ use lib.IntN.{ℤ, pos, negsuc}
 use lib.ListN.{replicate}
 use Rattle.definition.specs.Walk.{Reading}
 use Rattle.definition.specs.Sets.{Sets, no-sets}
-use Rattle.definition.specs.Answers.{refused, answered, merged-sets, sets-left}
+use Rattle.definition.specs.Answers.{refused, answered, done, merged-sets, sets-left}
 use Rattle.worked.specs.Books.{book-A, words-A, book-B, words-B, book-C, words-C, book-D, words-D, book-E, words-E, book-F, words-F, book-H, words-H, book-I, book-placed, words-placed, book-empty, book-cut, book-changed, book-short, book-head, book-kind-8, book-count-5, book-two-field-counts, book-unbound}
 use Rattle.worked.specs.Calls.{plan, walk, merge, find, same, remove, merging, finding, comparing, removing, reply, Row, _gives_, fits, refuses, stops-at, nothing-matches, refuses-walk}
 use Rattle.worked.specs.Compute.{computed, computed-is}
@@ -79,7 +79,7 @@ table =
     ∷ find 252 store-J gives finding (refused 16)
     ∷ merge 251 252 gives merging (refused 16)
     ∷ merge 3 3 gives merging (refused 16)
-    ∷ merge 1 2 gives merging (answered 0)
+    ∷ merge 1 2 gives merging (answered done)
     ∷ []
 
 -- computed, every row comes to what is due
