@@ -4,4 +4,3 @@ pub mod Tallies
 pub mod Entering
 pub mod Moving
 pub mod Joining
-pub mod Determined

@@ -6,6 +6,7 @@ ghost use Rattle.definition.specs.Sets.{no-sets, enter, join};
 ghost use Rattle.sets.specs.View.{view, Made, Holds};
 ghost use Rattle.sets.specs.Promises.{Finds, Merges, Sames, Tells, Removes};
 ghost use Rattle.sets.specs.Entries.{relabel, Moves, Joinable, Collects};
+ghost use Rattle.sets.specs.Determined.{find-determined, merge-determined, same-determined, remove-determined};
 
 // A store of disjoint sets. It is made by `Store::empty` and by the calls below, and by nothing else.
 pub struct Store {
