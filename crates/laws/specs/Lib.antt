@@ -7,3 +7,4 @@ pub mod Totals
 pub mod Signed
 pub mod Orders
 pub mod Champions
+pub mod Firsts

@@ -14,6 +14,12 @@ split false = inr refl
 pub clash {ℓ} : {X : Type ℓ} {x : Bool} → x ≡ true → x ≡ false → X
 clash p q = absurd (true≢false (sym p ∙ q))
 
+-- two tests that imply each other are one
+pub same-test : (x y : Bool) → (x ≡ true → y ≡ true) → (y ≡ true → x ≡ true) → x ≡ y
+same-test true y f g = sym (f refl)
+same-test false true f g = g refl
+same-test false false f g = refl
+
 -- AND
 pub both : (x y : Bool) → x && y ≡ true → (x ≡ true) × (y ≡ true)
 both true y e = (refl, e)

@@ -1,16 +1,17 @@
 -- What a right answer is, the partition by priority, and falling through from step to step.
-use mathlib.Core.Path.{_≡_, refl}
+use mathlib.Core.Path.{_≡_}
 use mathlib.Core.Logic.{_⊎_, inl, inr}
 use mathlib.Core.Bool.{true, false, not}
-use mathlib.Core.List.{List, [], _∷_, _++_, List·Memᴰ}
+use mathlib.Core.List.{List, List·Memᴰ}
 use mathlib.Core.Option.{Option, none, some}
 use Prim.Native.Nat.{ℕ}
 use lib.Signed.{leZ}
 use borrow.Author.Tests.{not-true}
 use Rattle.definition.specs.Lists.{all}
 use Rattle.definition.specs.Book.{Book, rule}
-use Rattle.definition.specs.Walk.{Reading, Hit, first-hit, matches}
+use Rattle.definition.specs.Walk.{Reading, Hit, matches}
 use Rattle.definition.specs.Choice.{Test, has, at-least, no-bar, counts, counted, stays, deferred}
+use Rattle.laws.specs.Firsts.{or-else}
 use Rattle.laws.specs.Tests.{split, both, one-of, not-both, neither, clash}
 use Rattle.laws.specs.Members.{all-at, all-fails, filter-in, filter-from}
 use Rattle.laws.specs.Signed.{leℤ-trans, leℤ-other}
@@ -74,15 +75,6 @@ module _ (b : Book) (t : Test) (w : List ℕ) where
           leℤ-trans (rule b j .priority) (rule b (f .0) .priority) (rule b i .priority) (leℤ-other (rule b (f .0) .priority) (rule b j .priority) (g .1)) (lacking (f .0) (f .1) (g .0))
 
 -- FALLING THROUGH
--- the first answer, or where it is none the second
-abbrev pub or-else : Option Hit → Option Hit → Option Hit
-or-else (some h) o = some h
-or-else none o = o
-
-pub first-hit-append : (xs ys : List Hit) → first-hit (xs ++ ys) ≡ or-else (first-hit xs) (first-hit ys)
-first-hit-append [] ys = refl
-first-hit-append (x ∷ xs) ys = refl
-
 module _ (b : Book) (d : Reading) (t : Test) (w : List ℕ) where
   pub fall : (o₁ o₂ : Option Hit) → Right b d (counted b t w) o₁ → Right b d (deferred b t w) o₂ → Right b d w (or-else o₁ o₂)
   fall none none p q = λ i m. go i (parted b t w i m)

@@ -17,7 +17,8 @@ use Rattle.definition.specs.Walk.{Reading, first-hit, hits, flow-hits, holds, a
 use Rattle.definition.specs.Scope.{state, Scope, worked-out, emit-bound, inside, arm-states}
 use Rattle.definition.specs.Choice.{testable, Test, on, same, counted, deferred}
 use Rattle.definition.specs.Accept.{named}
-use Rattle.theorems.specs.Partition.{Right, first-hit-append, fall, counted-in, deferred-in}
+use Rattle.laws.specs.Firsts.{first-hit-append}
+use Rattle.theorems.specs.Partition.{Right, fall, counted-in, deferred-in}
 use Rattle.theorems.specs.States.{Same}
 use Rattle.theorems.specs.ArmStates.{Entered, entered}
 use Rattle.theorems.specs.Classes.{respected, own, pair}

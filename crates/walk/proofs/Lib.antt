@@ -1,0 +1,5 @@
+mod Ints
+mod Laws
+mod Parts
+mod Turns
+mod Whole

@@ -1,0 +1,225 @@
+-- The loops over steps and over arms: what holds at the head, that a turn keeps it, and what follows at the ways out.
+use mathlib.Core.Path.{_≡_, refl, sym, ap, subst, _∙_}
+use mathlib.Core.Bool.{Bool, true, false, _&&_, not, false≢true}
+use mathlib.Core.List.{List, [], _∷_, _++_}
+use mathlib.Core.Option.{Option, none, some}
+use Prim.Native.Nat.{ℕ, suc, _+_, _-_, _<_, _≤_, max}
+use native.Mathlib.Omega.{arith}
+use lib.ListN.{length, getD, drop, length-drop}
+use lib.Seq.{drop-drop}
+use Rattle.definition.specs.Lists.{if_then_else_}
+use Rattle.definition.specs.Book.{Pattern}
+use Rattle.definition.specs.Accept.{pattern-ok}
+use Rattle.definition.specs.Tree.{Block, Flow, Arms, end, step, match, no-arms, arm}
+use Rattle.definition.specs.Walk.{Reading, Hit, first-hit, hits, flow-hits, arm-hits, walk, holds, placed-in, sites-in, flow-sites, arm-sites}
+use Rattle.definition.specs.Read.{Reader, _>>=_, guarded, read-places, read-pattern, read-arm, read-arms, read-flow, read-step, read-steps, read-counted}
+use Rattle.definition.specs.Tables.{signed}
+use Rattle.walk.specs.declared.Stop.{Stop}
+use Rattle.walk.specs.Ends.{above, Good, stop-of, Held, pattern-at, arm-names, arm-stop, arms-stop, step-names, step-stop, flow-stop}
+use Rattle.walk.proofs.Laws.{above-append, id-yes, id-no}
+use Rattle.laws.specs.Firsts.{or-else, else-none, else-assoc, first-hit-append}
+
+-- the whole is read from the rest: its top and its stop are these
+pub record To {B : Type 0} (names : B → List ℕ) (stop : B → Option Hit) (o : Option (B × List ℕ)) (r : List ℕ) (x : ℕ) (s : Option Hit) : Type 0 where
+  pub thing : B
+  pub is : o ≡ some (thing, r)
+  pub top : above (names thing) ≡ x
+  pub met : stop thing ≡ s
+
+-- o′, the reading of what is left, settles o, that of the whole: t is the top of what is done, and f says where the whole stops
+pub record Onto {A B : Type 0} (nA : A → List ℕ) (sA : A → Option Hit) (nB : B → List ℕ) (sB : B → Option Hit) (t : ℕ) (f : Option Hit → Option Hit) (o′ : Option (A × List ℕ)) (o : Option (B × List ℕ)) : Type 0 where
+  pub fails : o′ ≡ none → o ≡ none
+  pub goes : (k : A) (r : List ℕ) → o′ ≡ some (k, r) → To nB sB o r (max t (above (nA k))) (f (sA k))
+
+-- STEPS
+step-above : (l : List ℕ) (f : Flow) (k : Block) → above (sites-in (step l f k)) ≡ max (above (l ++ flow-sites f)) (above (sites-in k))
+unfolding sites-in
+step-above l f k = above-append (l ++ flow-sites f) (sites-in k)
+
+module _ (d : Reading) (sub : Reader Block) where
+  -- at the loop's head, before step i of n, at the position `at`
+  pub record Steps (w : List ℕ) (n at t : ℕ) (p : Stop) (i : ℕ) : Type 0 where
+    pub some-left : i ≤ n
+    pub inside : at ≤ length w
+    pub onto : Onto sites-in (walk d) sites-in (walk d) t (or-else (stop-of p)) (read-steps sub (n - i) (drop at w)) (read-counted sub w)
+
+  pub steps-empty : (w : List ℕ) → length w ≡ 0 → read-counted sub w ≡ none
+  unfolding read-counted
+  steps-empty [] h = refl
+  steps-empty (x ∷ w) h = absurd (omega arith)
+
+  counted : (w : List ℕ) → 0 < length w → read-steps sub (getD w 0 0 - 0) (drop 1 w) ≡ read-counted sub w
+  unfolding read-counted
+  counted [] h = absurd (omega arith)
+  counted (x ∷ w) h = let e : x - 0 ≡ x = omega arith in rw e
+
+  pub steps-begin : (w : List ℕ) → 0 < length w → Steps w (getD w 0 0) 1 0 Stop.Nowhere 0
+  steps-begin w h = record {
+    some-left = omega arith;
+    inside = omega arith;
+    onto = record {
+      fails = λ q. sym (counted w h) ∙ q;
+      goes = λ k r q. record { thing = k; is = sym (counted w h) ∙ q; top = omega arith; met = refl };
+    };
+  }
+
+  module _ {w : List ℕ} {n at t : ℕ} {p : Stop} {i : ℕ} (v : Steps w n at t p i) (h : i < n) where
+    one-more : n - i ≡ suc (n - (i + 1))
+    one-more = omega arith
+
+    pub steps-stop : read-step sub (drop at w) ≡ none → read-counted sub w ≡ none
+    steps-stop q = v .onto .fails (rw (one-more, q))
+
+    pub steps-turn : (m u x : ℕ) (q y : Stop) → Good step-names (step-stop d) (read-step sub (drop at w)) (drop at w) m u q → x ≡ max t u → stop-of y ≡ or-else (stop-of p) (stop-of q) → Steps w n (at + m) x y (i + 1)
+    unfolding walk hits
+    steps-turn m u x q y g ex ey =
+        let l = g .thing .0 in
+        let f = g .thing .1 in
+        record {
+          some-left = omega arith;
+          inside = omega (arith, g .within, length-drop at w, v .inside);
+          onto = record {
+            fails = λ e. v .onto .fails (rw (one-more, g .is, drop-drop m at w, e));
+            goes = λ k r e.
+                let z = v .onto .goes (step l f k) r (rw (one-more, g .is, drop-drop m at w, e)) in
+                record {
+                  thing = z .thing;
+                  is = z .is;
+                  top = omega (arith, z .top, ex, g .top, step-above l f k);
+                  met = z .met ∙ ap (or-else (stop-of p)) (first-hit-append (flow-hits d f) (hits d k) ∙ ap (λ o. or-else o (first-hit (hits d k))) (sym (g .met)))
+                      ∙ else-assoc (stop-of p) (stop-of q) (first-hit (hits d k)) ∙ ap (λ o. or-else o (first-hit (hits d k))) (sym ey);
+                };
+          };
+        }
+
+  pub steps-done : {w : List ℕ} {n at t : ℕ} {p : Stop} {i : ℕ} → Steps w n at t p i → n ≤ i → Good sites-in (walk d) (read-counted sub w) w at t p
+  unfolding sites-in walk hits above
+  steps-done {w} {n} {at} {t} {p} {i} v h =
+      let e : n - i ≡ 0 = omega arith in
+      let z = v .onto .goes end (drop at w) (rw e) in
+      record { thing = z .thing; is = z .is; within = v .inside; top = omega (arith, z .top); met = sym (z .met ∙ else-none (stop-of p)) }
+
+-- ARMS
+-- the pattern of an arm stands in its first three words
+module _ {A B : Type 0} where
+  pub bound : (o : Option A) (f : A → Option B) (b : B) → (o >>= f) ≡ some b → (a : A) × (o ≡ some a) × (f a ≡ some b)
+  bound (some a) f b e = (a, refl, e)
+  bound none f b e = let z : _≡_ {A = ℕ} 0 1 = cc in absurd (omega arith)
+
+some-inj : {A : Type 0} (x y : A) → some x ≡ some y → x ≡ y
+some-inj x y e = cc
+
+pattern-words : (w : List ℕ) (a : Pattern × List (Option ℕ)) (r : List ℕ) → read-pattern w ≡ some (a, r) → (3 ≤ length w) × (a .0 ≡ pattern-at (getD w 0 0) (signed (getD w 2 0)) (getD w 1 0))
+unfolding read-pattern
+pattern-words [] a r e = let z : _≡_ {A = ℕ} 0 1 = cc in absurd (omega arith)
+pattern-words (k ∷ []) a r e = let z : _≡_ {A = ℕ} 0 1 = cc in absurd (omega arith)
+pattern-words (k ∷ f ∷ []) a r e = let z : _≡_ {A = ℕ} 0 1 = cc in absurd (omega arith)
+pattern-words (k ∷ f ∷ x ∷ w) a r e =
+    let b = bound (guarded (pattern-ok (pattern-at k (signed x) f)) (read-places f w)) _ (a, r) e in
+    let q = some-inj _ _ (b .2) in
+    (omega arith, sym (ap (λ y. y .0 .0) q))
+
+pub arm-words : (sub : Reader Block) (w : List ℕ) (a : (Pattern × List (Option ℕ)) × Block) (r : List ℕ) → read-arm sub w ≡ some (a, r) → (3 ≤ length w) × (a .0 .0 ≡ pattern-at (getD w 0 0) (signed (getD w 2 0)) (getD w 1 0))
+unfolding read-arm
+arm-words sub w a r e =
+    let b = bound (read-pattern w) _ (a, r) e in
+    let c = bound (sub (b .0 .1)) _ (a, r) (b .2) in
+    let q = some-inj _ _ (c .2) in
+    let z = pattern-words w (b .0 .0) (b .0 .1) (b .1) in
+    (z .0, sym (ap (λ y. y .0 .0 .0) q) ∙ z .1)
+
+arm-above : (p : Pattern) (ps : List (Option ℕ)) (k : Block) (as′ : Arms) → above (arm-sites (arm p ps k as′)) ≡ max (above (placed-in ps ++ sites-in k)) (above (arm-sites as′))
+unfolding arm-sites
+arm-above p ps k as′ = above-append (placed-in ps ++ sites-in k) (arm-sites as′)
+
+-- f is where the arms stop that follow
+abbrev pub onward : Bool → Stop → Option Hit → Option Hit
+onward free p o = if_then_else_ free o (stop-of p)
+
+onward-turn : (free held : Bool) (p y : Stop) (hs : List Hit) (k : Block) (d : Reading) (q : Option Hit) → q ≡ first-hit (hits d k) → stop-of y ≡ if_then_else_ (free && held) q (stop-of p)
+    → onward free p (first-hit (if_then_else_ held (hits d k) hs)) ≡ onward (free && not held) y (first-hit hs)
+onward-turn true true p y hs k d q e g = sym e ∙ sym g
+onward-turn true false p y hs k d q e g = refl
+onward-turn false held p y hs k d q e g = sym g
+
+shut-turn : (free held : Bool) (p y : Stop) (q : Option Hit) → (free ≡ true → stop-of p ≡ none) → stop-of y ≡ if_then_else_ (free && held) q (stop-of p) → free && not held ≡ true → stop-of y ≡ none
+shut-turn true true p y q h e f = absurd (false≢true f)
+shut-turn true false p y q h e f = e ∙ h refl
+shut-turn false held p y q h e f = absurd (false≢true f)
+
+module _ (d : Reading) (sub : Reader Block) where
+  -- at the loop's head, before arm i of n, at the position `at`; w is the tag, the source s and the count, and the arms
+  pub record ArmsAt (w : List ℕ) (s n at t : ℕ) (p : Stop) (free : Bool) (i : ℕ) : Type 0 where
+    pub some-left : i ≤ n
+    pub inside : at ≤ length w
+    pub shut : free ≡ true → stop-of p ≡ none
+    pub onto : Onto arm-sites (arms-stop d s) flow-sites (flow-stop d) t (onward free p) (read-arms sub (n - i) (drop at w)) (read-flow sub 0 (drop 1 w))
+
+  pub arms-bad : (w : List ℕ) → 3 ≤ length w → 251 < getD w 1 0 → read-flow sub 0 (drop 1 w) ≡ none
+  unfolding read-flow
+  arms-bad [] h k = absurd (omega arith)
+  arms-bad (t ∷ []) h k = absurd (omega arith)
+  arms-bad (t ∷ a ∷ []) h k = absurd (omega arith)
+  arms-bad (t ∷ a ∷ n ∷ w) h k = rw (id-no a k)
+
+  pub arms-begin : (w : List ℕ) → 3 ≤ length w → getD w 1 0 ≤ 251 → ArmsAt w (getD w 1 0) (getD w 2 0) 3 (getD w 1 0 + 1) Stop.Nowhere true 0
+  unfolding read-flow flow-sites above flow-hits
+  arms-begin [] h k = absurd (omega arith)
+  arms-begin (t ∷ []) h k = absurd (omega arith)
+  arms-begin (t ∷ a ∷ []) h k = absurd (omega arith)
+  arms-begin (t ∷ a ∷ n ∷ w) h k =
+      let e : n - 0 ≡ n = omega arith in
+      record {
+        some-left = omega arith;
+        inside = omega arith;
+        shut = λ q. refl;
+        onto = record {
+          fails = λ q. let q′ : read-arms sub n w ≡ none = subst (λ j. read-arms sub j w ≡ none) e q in rw (id-yes a k, q′);
+          goes = λ m r q. let q′ : read-arms sub n w ≡ some (m, r) = subst (λ j. read-arms sub j w ≡ some (m, r)) e q in record { thing = match a m; is = rw (id-yes a k, q′); top = omega arith; met = refl };
+        };
+      }
+
+  module _ {w : List ℕ} {s n at t : ℕ} {p : Stop} {free : Bool} {i : ℕ} (v : ArmsAt w s n at t p free i) (h : i < n) where
+    arm-more : n - i ≡ suc (n - (i + 1))
+    arm-more = omega arith
+
+    pub arms-fail : read-arm sub (drop at w) ≡ none → read-flow sub 0 (drop 1 w) ≡ none
+    arms-fail q = v .onto .fails (rw (arm-more, q))
+
+    pub arms-turn : (m u x : ℕ) (q y : Stop) (held free′ : Bool) → Good arm-names (arm-stop d) (read-arm sub (drop at w)) (drop at w) m u q → Held (drop at w) (d .kinds) (d .numbers) s held
+        → x ≡ max t u → stop-of y ≡ if_then_else_ (free && held) (stop-of q) (stop-of p) → free′ ≡ free && not held → ArmsAt w s n (at + m) x y free′ (i + 1)
+    unfolding walk arm-hits
+    arms-turn m u x q y held free′ g hd ex ey ef =
+        let b = g .thing .0 .0 in
+        let ps = g .thing .0 .1 in
+        let c = g .thing .1 in
+        let ws = arm-words sub (drop at w) (g .thing) _ (g .is) in
+        let eh : held ≡ holds d s b = hd .is (d .identities) (getD (drop at w) 1 0) (ws .0) ∙ ap (holds d s) (sym (ws .1)) in
+        record {
+          some-left = omega arith;
+          inside = omega (arith, g .within, length-drop at w, v .inside);
+          shut = λ e. shut-turn free held p y (stop-of q) (v .shut) ey (sym ef ∙ e);
+          onto = record {
+            fails = λ e. v .onto .fails (rw (arm-more, g .is, drop-drop m at w, e));
+            goes = λ k r e.
+                let z = v .onto .goes (arm b ps c k) r (rw (arm-more, g .is, drop-drop m at w, e)) in
+                record {
+                  thing = z .thing;
+                  is = z .is;
+                  top = omega (arith, z .top, ex, g .top, arm-above b ps c k);
+                  met = z .met ∙ ap (λ o. onward free p (first-hit (if_then_else_ o (hits d c) (arm-hits d s k)))) (sym eh) ∙ onward-turn free held p y (arm-hits d s k) c d (stop-of q) (g .met) ey
+                      ∙ ap (λ o. onward o y (first-hit (arm-hits d s k))) (sym ef);
+                };
+          };
+        }
+
+  onward-none : (free : Bool) (p : Stop) → (free ≡ true → stop-of p ≡ none) → onward free p none ≡ stop-of p
+  onward-none true p e = sym (e refl)
+  onward-none false p e = refl
+
+  pub arms-done : {w : List ℕ} {s n at t : ℕ} {p : Stop} {free : Bool} {i : ℕ} → ArmsAt w s n at t p free i → n ≤ i → Good flow-sites (flow-stop d) (read-flow sub 0 (drop 1 w)) w at t p
+  unfolding arm-sites arm-hits above
+  arms-done {w} {s} {n} {at} {t} {p} {free} {i} v h =
+      let e : n - i ≡ 0 = omega arith in
+      let z = v .onto .goes no-arms (drop at w) (rw e) in
+      record { thing = z .thing; is = z .is; within = v .inside; top = omega (arith, z .top); met = sym (z .met ∙ onward-none free p (v .shut)) }

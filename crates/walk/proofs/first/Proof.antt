@@ -1,0 +1,20 @@
+use borrow.Author.Needs.{needs}
+use Rattle.walk.proofs.first.Statement.{statement}
+use Rattle.walk.proofs.first.Tie as tie
+use Rattle.walk.proofs.first.Reads as reads
+use Rattle.walk.proofs.first.Lts as lts
+
+enum-known-a : tie.Need-enum-known-a
+enum-known-a c = search needs
+
+enum-told : tie.Need-enum-told
+enum-told c = search needs
+
+returns : tie.Need-returns
+returns c = rw (c .before .a .given .1)
+
+returns-2 : tie.Need-returns-2
+returns-2 c = search needs
+
+pub first-spec : {M : Type 1} → statement M
+first-spec = tie.close (tie.spec enum-known-a enum-told returns returns-2)
