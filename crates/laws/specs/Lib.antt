@@ -5,3 +5,4 @@ pub mod Signed
 pub mod Orders
 pub mod Champions
 pub mod Totals
+pub mod Runs

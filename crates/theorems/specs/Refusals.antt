@@ -34,21 +34,21 @@ pub from-length : (k n : ℕ) → length (from k n) ≡ n
 from-length k zero = refl
 from-length k (suc n) = ap suc (from-length (suc k) n)
 
-map-at : {A : Type 0} (f : ℕ → A) (k n i : ℕ) (d : A) → i < n → getD (map f (from k n)) i d ≡ f (k + i)
+pub map-at : {A : Type 0} (f : ℕ → A) (k n i : ℕ) (d : A) → i < n → getD (map f (from k n)) i d ≡ f (k + i)
 map-at f k zero i d h = absurd (omega arith)
 map-at f k (suc n) zero d h = ap f (omega arith)
 map-at f k (suc n) (suc i) d h = map-at f (suc k) n i d (omega arith) ∙ ap f (omega arith)
 
 module _ (n S R : ℕ) (t u : List ℕ) where
-  sites-length : length (book-of n S R t u .sites) ≡ S
+  pub sites-length : length (book-of n S R t u .sites) ≡ S
   unfolding book-of
   sites-length = length-map (upto S) _ ∙ from-length 0 S
 
-  rules-length : length (book-of n S R t u .rules) ≡ R
+  pub rules-length : length (book-of n S R t u .rules) ≡ R
   unfolding book-of
   rules-length = length-map (upto R) _ ∙ from-length 0 R
 
-  rule-is : (i : ℕ) → i < R → rule (book-of n S R t u) i ≡ rule-at n u i
+  pub rule-is : (i : ℕ) → i < R → rule (book-of n S R t u) i ≡ rule-at n u i
   unfolding book-of rule
   rule-is i h = map-at (rule-at n u) 0 R i no-rule h ∙ ap (rule-at n u) (omega arith)
 
