@@ -1,0 +1,44 @@
+-- Laws of a loop over k below n, from the front. What it has still to do at k is the list `xs k`: element k, then `xs (k + 1)`; from n on nothing.
+-- An invariant says that the answer over the whole list is the answer over `xs k`, put together with what was found so far.
+use mathlib.Core.Path.{_≡_, refl}
+use mathlib.Core.Bool.{Bool, true, false}
+use mathlib.Core.List.{List, [], _∷_, map}
+use Prim.Native.Nat.{ℕ, zero, suc, _+_, _-_, _≤_, _<_}
+use native.Mathlib.Omega.{arith}
+use native.Mathlib.Numerals.{add-one}
+use lib.ListN.{length, getD, drop, drop-of-length-le}
+use lib.Seq.{drop-cons}
+use Rattle.definition.specs.Lists.{from, keep, filter, any, each}
+
+pub record Runs {A : Type 0} (xs : ℕ → List A) (g : ℕ → A) (n : ℕ) : Type 0 where
+  pub more : (k : ℕ) → k < n → xs k ≡ g k ∷ xs (k + 1)
+  pub none : (k : ℕ) → n ≤ k → xs k ≡ []
+
+-- the slots 0 to n - 1 of a record
+pub in-slots : {A : Type 0} (g : ℕ → A) (n : ℕ) → Runs (λ k. map g (from k (n - k))) g n
+in-slots g n = record {
+  more = λ k h. let e : n - k ≡ suc (n - (k + 1)) = omega arith in rw (e, add-one k);
+  none = λ k h. let e : n - k ≡ 0 = omega arith in rw e;
+}
+
+-- the elements of a slice
+pub in-slice : (l : List ℕ) → Runs (λ k. drop k l) (λ k. getD l k 0) (length l)
+in-slice l = record { more = λ k h. rw add-one (drop-cons l k 0 h); none = λ k h. drop-of-length-le l {i = k} h }
+
+module _ {A : Type 0} {xs : ℕ → List A} {g : ℕ → A} {n : ℕ} (r : Runs xs g n) (p : A → Bool) (k : ℕ) where
+  pub any-skip : k < n → p (g k) ≡ false → any p (xs (k + 1)) ≡ any p (xs k)
+  any-skip h e = rw (r .more k h, e)
+
+  pub any-hit : k < n → p (g k) ≡ true → any p (xs k) ≡ true
+  any-hit h e = rw (r .more k h, e)
+
+  pub any-end : n ≤ k → any p (xs k) ≡ false
+  any-end h = rw (r .none k h)
+
+-- any fold
+module _ {A B : Type 0} {xs : ℕ → List A} {g : ℕ → A} {n : ℕ} (r : Runs xs g n) (f : A → B → B) (k : ℕ) where
+  pub each-more : k < n → (b : B) → each f (xs k) b ≡ each f (xs (k + 1)) (f (g k) b)
+  each-more h b = rw (r .more k h)
+
+  pub each-end : n ≤ k → (b : B) → each f (xs k) b ≡ b
+  each-end h b = rw (r .none k h)

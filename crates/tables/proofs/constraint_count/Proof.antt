@@ -1,0 +1,15 @@
+use mathlib.Core.Path.{sym, _∙_}
+use native.Mathlib.Omega.{arith}
+use borrow.Author.Needs.{needs}
+use Rattle.tables.proofs.Fields.{constraint-count}
+use Rattle.tables.proofs.constraint_count.Statement.{statement}
+use Rattle.tables.proofs.constraint_count.Tie as tie
+
+rule-id-requires : tie.Need-rule-id-requires
+rule-id-requires c κs = search needs
+
+returns : tie.Need-returns
+returns c = let a = c .before .before .args in (c .rule-id .ensures ∙ sym (constraint-count (a .rules .now) (a .i)), (c .rule-id .ensures, omega (arith, c .rule-id .ensures, c .before .before .pre .constraints)))
+
+pub constraint-count-spec : {M : Type 1} → statement M
+constraint-count-spec = tie.close (tie.spec rule-id-requires returns)

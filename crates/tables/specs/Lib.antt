@@ -1,0 +1,2 @@
+-- What the contracts of `tables` cite beside the definition.
+pub mod Held
