@@ -1,7 +1,8 @@
--- A let list has at most as many entries as there are states: each entry takes one of the states that are below Emitted.
+-- What stands in a let list: sites of the book, and no more than there are states, since each entry takes one of the states below Emitted.
 use mathlib.Core.Path.{_≡_, refl, _∙_, ap}
+use mathlib.Core.Logic.{_⊎_, inl, inr}
 use mathlib.Core.Bool.{Bool, true, false}
-use mathlib.Core.List.{List, [], _∷_, _++_, List·Memᴰ, List·Memᴰ·head, List·Memᴰ·tail}
+use mathlib.Core.List.{List, [], _∷_, _++_, List·Memᴰ, List·Memᴰ·head, List·Memᴰ·tail, List·Memᴰ·not-nil, List·Memᴰ·append-cases, List·Memᴰ·eq-of-singleton}
 use Prim.Native.Nat.{ℕ, zero, suc, _+_, _≤_, _<_}
 use native.Mathlib.Omega.{arith}
 use lib.Dec.{ltb}
@@ -82,3 +83,38 @@ module _ (b : Book) (g : Good b) where
 
   pub lets-few : (ss st : List ℕ) → ((s : ℕ) → List·Memᴰ s ss → s < length (b .sites)) → length (b .sites) ≤ length st → length (use-all b ss st .lets) ≤ length st
   lets-few ss st h l = let p = all-spent ss st h l .spent in let q = low-length st in omega arith
+
+  -- ITS ENTRIES are sites of the book
+  abbrev Low : Use → Type 0
+  Low u = (x : ℕ) → List·Memᴰ x (u .lets) → x < length (b .sites)
+
+  each-low : (f : ℕ → Use → Use) → (ss : List ℕ) → ((s : ℕ) → List·Memᴰ s ss → (u : Use) → Low u → Low (f s u)) → (u : Use) → Low u → Low (each f ss u)
+  each-low f [] h u l = l
+  each-low f (s ∷ ss) h u l = each-low f ss (λ x m. h x (List·Memᴰ·tail m)) (f s u) (h s (List·Memᴰ·head refl) u l)
+
+  let-low : (s : ℕ) (u : Use) → s < length (b .sites) → Low u → Low (add-let b s u)
+  unfolding add-let
+  let-low s u k l x m = go (never-listed (site b s)) m
+    where
+      two : List·Memᴰ x (u .lets) ⊎ List·Memᴰ x (s ∷ []) → x < length (b .sites)
+      two (inl n) = l x n
+      two (inr n) = let e = List·Memᴰ·eq-of-singleton n in omega arith
+
+      go : (t : Bool) → List·Memᴰ x (if_then_else_ t (u .lets) (u .lets ++ (s ∷ []))) → x < length (b .sites)
+      go true n = l x n
+      go false n = two (List·Memᴰ·append-cases (u .lets) n)
+
+  use-low : (n s : ℕ) → s < length (b .sites) → (u : Use) → Low u → Low (use-below n b s u)
+  unfolding use-below mark
+  use-low zero s k u l = l
+  use-low (suc n) s k u l = go (ltb (state (u .states) s) 2) refl (use-low n)
+    where
+      go : (t : Bool) → ltb (state (u .states) s) 2 ≡ t → ((r : ℕ) → r < length (b .sites) → (v : Use) → Low v → Low (use-below n b r v)) → Low (use-below (suc n) b s u)
+      go false e rec = rw (e, use-below) l
+      go true e rec =
+          rw (e, use-below) (let-low s (each (use-below n b) (site b s .sources) (mark s u)) k
+          (each-low (use-below n b) (site b s .sources) (λ r m. rec r (let z = g .low s r m in omega arith)) (mark s u) l))
+
+  pub sites-low : (ss : List ℕ) → ((s : ℕ) → List·Memᴰ s ss → s < length (b .sites)) → (st : List ℕ) → Low (use-all b ss st)
+  unfolding use-site use-all
+  sites-low ss h st = each-low (use-site b) ss (λ s m u l. use-low (suc s) s (h s m) u l) (record { states = st; lets = [] }) (λ x m. absurd (List·Memᴰ·not-nil m))

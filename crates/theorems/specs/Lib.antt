@@ -14,12 +14,14 @@ pub mod ReturnedOnce
 pub mod LetsBind
 pub mod BoundBeforeUse
 pub mod NestingEnough
+pub mod LetLists
 pub mod ReadBack
 pub mod WellFormed
-pub mod LetLists
+pub mod SitesNamed
 pub mod Lean
 pub mod WordBound
 pub mod Root
 pub mod Refusals
 pub mod Demands
 pub mod Proved
+pub mod BytesToAnswer

@@ -28,6 +28,7 @@ use Rattle.theorems.specs.BoundBeforeUse.{block-safe}
 use Rattle.theorems.specs.NestingEnough.{exact}
 use Rattle.theorems.specs.ReadBack.{well-formed, block-read}
 use Rattle.theorems.specs.WellFormed.{block-fine}
+use Rattle.theorems.specs.SitesNamed.{block-names}
 use Rattle.theorems.specs.Lean.{block-lean}
 use Rattle.theorems.specs.WordBound.{words-small}
 use Rattle.theorems.specs.Refusals.{Taken, taken}
@@ -107,6 +108,7 @@ module _ (n : ℕ) (b : Book) (k : Taken n b) (deep : n + 4 ≤ nesting) where
     nesting-enough = λ more. sym (exact b (good n b (k .passed)) more nesting (root b) (upto R) frame);
     reads-back = λ rest. block-read nesting (tree b) well rest;
     words-few = few;
+    sites-known = block-names b (good n b (k .passed)) nesting (root b) (upto R) frame;
   }
 
 pub demands : Demands

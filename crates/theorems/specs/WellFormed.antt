@@ -2,19 +2,18 @@
 use mathlib.Core.Path.{_≡_, refl, sym, _∙_, ap}
 use mathlib.Core.Logic.{_⊎_, inl, inr}
 use mathlib.Core.Bool.{Bool, true, false}
-use mathlib.Core.List.{List, [], _∷_, _++_, map, List·Memᴰ, List·Memᴰ·head, List·Memᴰ·tail, List·Memᴰ·not-nil, List·Memᴰ·cases-cons, List·Memᴰ·eq-of-singleton, List·Memᴰ·append-cases, Memᴰ·append-right}
-use Prim.Native.Nat.{ℕ, zero, suc, _≤_, _<_}
+use mathlib.Core.List.{List, [], _∷_, map, List·Memᴰ, List·Memᴰ·head, List·Memᴰ·tail, List·Memᴰ·cases-cons, Memᴰ·append-right}
+use Prim.Native.Nat.{ℕ, suc, _≤_, _<_}
 use native.Mathlib.Omega.{arith}
-use lib.Dec.{ltb}
 use lib.ListN.{length, length-map}
 use borrow.Author.Tests.{lt-ltb, eq-eqb}
-use Rattle.definition.specs.Lists.{upto, all, first, keep-first, if_then_else_, each}
+use Rattle.definition.specs.Lists.{upto, all, first, keep-first, if_then_else_}
 use Rattle.laws.specs.Tests.{and}
 use Rattle.laws.specs.Ranges.{from-length}
 use Rattle.laws.specs.Members.{all-from, from-bounds}
-use Rattle.definition.specs.Book.{Book, Pattern, Constraint, site, rule, constrains, pattern-on, linked}
+use Rattle.definition.specs.Book.{Book, Pattern, Constraint, rule, constrains, pattern-on, linked}
 use Rattle.definition.specs.Tree.{Block, Flow, step, match, equal}
-use Rattle.definition.specs.Scope.{state, Scope, inside, Use, mark, add-let, use-below, use-site, use-all, never-listed}
+use Rattle.definition.specs.Scope.{Scope, inside, use-all}
 use Rattle.definition.specs.Choice.{Test, on, same, counted, deferred}
 use Rattle.definition.specs.Plan.{tested, returns, return-steps, rank, ranked, outranks, patterns, asking, places, arms, block, uses-of, after, lets-of, place-at, stands-at}
 use Rattle.definition.specs.Accept.{pattern-ok, named}
@@ -26,6 +25,7 @@ use Rattle.theorems.specs.Patterns.{patterns-from}
 use Rattle.theorems.specs.Frame.{Frame, Done, named-uses}
 use Rattle.theorems.specs.Built.{Ready, built}
 use Rattle.definition.specs.Read.{id-ok, place-ok}
+use Rattle.theorems.specs.LetLists.{sites-low}
 use Rattle.theorems.specs.ReadBack.{number-ok, well-formed, flow-well-formed, arms-well-formed}
 
 id-fits : (x : ℕ) → x < 252 → id-ok x ≡ true
@@ -66,41 +66,6 @@ first-in q (x ∷ xs) n h k = go (q x) (first-in q xs n (λ y m. h y (List·Mem�
 
 module _ (b : Book) (g : Good b) (few-sites : length (b .sites) ≤ 252) (few-rules : length (b .rules) ≤ 252)
     (patterns-ok : (i : ℕ) (c : Constraint) → i < length (b .rules) → List·Memᴰ c (rule b i .constraints) → (pattern-ok (c .pattern) ≡ true) × (number-ok (c .pattern .number) ≡ true)) where
-  -- LETS name sites
-  abbrev Low : Use → Type 0
-  Low u = (x : ℕ) → List·Memᴰ x (u .lets) → x < length (b .sites)
-
-  each-low : (f : ℕ → Use → Use) → (ss : List ℕ) → ((s : ℕ) → List·Memᴰ s ss → (u : Use) → Low u → Low (f s u)) → (u : Use) → Low u → Low (each f ss u)
-  each-low f [] h u l = l
-  each-low f (s ∷ ss) h u l = each-low f ss (λ x m. h x (List·Memᴰ·tail m)) (f s u) (h s (List·Memᴰ·head refl) u l)
-
-  list-low : (s : ℕ) (u : Use) → s < length (b .sites) → Low u → Low (add-let b s u)
-  unfolding add-let
-  list-low s u k l x m = go (never-listed (site b s)) m
-    where
-      two : List·Memᴰ x (u .lets) ⊎ List·Memᴰ x (s ∷ []) → x < length (b .sites)
-      two (inl n) = l x n
-      two (inr n) = let e = List·Memᴰ·eq-of-singleton n in omega arith
-
-      go : (t : Bool) → List·Memᴰ x (if_then_else_ t (u .lets) (u .lets ++ (s ∷ []))) → x < length (b .sites)
-      go true n = l x n
-      go false n = two (List·Memᴰ·append-cases (u .lets) n)
-
-  use-low : (n s : ℕ) → s < length (b .sites) → (u : Use) → Low u → Low (use-below n b s u)
-  unfolding use-below mark
-  use-low zero s k u l = l
-  use-low (suc n) s k u l = go (ltb (state (u .states) s) 2) refl (use-low n)
-    where
-      go : (t : Bool) → ltb (state (u .states) s) 2 ≡ t → ((r : ℕ) → r < length (b .sites) → (v : Use) → Low v → Low (use-below n b r v)) → Low (use-below (suc n) b s u)
-      go false e rec = rw (e, use-below) l
-      go true e rec =
-          rw (e, use-below) (list-low s (each (use-below n b) (site b s .sources) (mark s u)) k
-          (each-low (use-below n b) (site b s .sources) (λ r m. rec r (let z = g .low s r m in omega arith)) (mark s u) l))
-
-  sites-low : (ss : List ℕ) → ((s : ℕ) → List·Memᴰ s ss → s < length (b .sites)) → (st : List ℕ) → Low (use-all b ss st)
-  unfolding use-site use-all
-  sites-low ss h st = each-low (use-site b) ss (λ s m u l. use-low (suc s) s (h s m) u l) (record { states = st; lets = [] }) (λ x m. absurd (List·Memᴰ·not-nil m))
-
   ids-ok : (l : List ℕ) → ((x : ℕ) → List·Memᴰ x l → x < length (b .sites)) → all id-ok l ≡ true
   ids-ok l h = all-from id-ok l (λ x m. id-fits x (let z = h x m in omega arith))
 
@@ -118,7 +83,7 @@ module _ (b : Book) (g : Good b) (few-sites : length (b .sites) ≤ 252) (few-ru
       let r = rule b i in
       let known : (s : ℕ) → List·Memᴰ s (named (rule b i)) → s < length (b .sites) = λ s m. g .known i s k m in
       let res = known (r .result) (named-uses r (r .result) (unfold uses-of in Memᴰ·append-right (r .impure) (List·Memᴰ·head refl))) in
-      and (ids-ok (use-all b (uses-of (rule b i)) st .lets) (sites-low (uses-of r) (λ s m. known s (named-uses r s m)) st))
+      and (ids-ok (use-all b (uses-of (rule b i)) st .lets) (sites-low b g (uses-of r) (λ s m. known s (named-uses r s m)) st))
       (and (and (id-fits i (omega arith)) (id-fits (r .result) (omega arith))) (fine-steps n js _ (λ j m. h j (List·Memᴰ·tail m))))
 
   fine-returns : (n : ℕ) (σ : Scope) (w : List ℕ) → Frame b n σ w → ((i : ℕ) → List·Memᴰ i w → ((j : ℕ) → List·Memᴰ j w → no-higher b j i) → Done b σ i) → FineP n σ w (returns b σ w)
@@ -129,7 +94,7 @@ module _ (b : Book) (g : Good b) (few-sites : length (b .sites) ≤ 252) (few-ru
       → (f : Flow) (k : Block) → FineQ n (after b σ t) t (counted b t w) f → FineP (suc n) (after b σ t) (deferred b t w) k → FineP (suc n) σ w (step (lets-of b σ t) f k)
   unfolding well-formed
   fine-step n σ w t v r c f k p q =
-      and (ids-ok (lets-of b σ t) (sites-low (tested t) (λ s m. r s m .inside-sites) (σ .states))) (and p q)
+      and (ids-ok (lets-of b σ t) (sites-low b g (tested t) (λ s m. r s m .inside-sites) (σ .states))) (and p q)
 
   fine-equal : (n : ℕ) (σ : Scope) (w : List ℕ) (x y : ℕ) → x < y → Frame b (suc n) σ w → Ready b g σ x → Ready b g σ y → ((i : ℕ) → List·Memᴰ i w → linked (rule b i .pairs) x y ≡ true)
       → (k : Block) → FineP n (record { states = σ .states; joined = pair x y ∷ σ .joined }) w k → FineQ n σ (same x y) w (equal x y k)
