@@ -104,7 +104,7 @@ module _ {A : Type 0} where
   first test [] = none
   first test (x ∷ xs) = keep-first (test x) x (first test xs)
 
-  -- x, x₂, ..: of each two the second takes the first one's place where it is better
+  -- x meets each of the list in turn, and of the two the better stays
   abbrev pub champion : (A → A → Bool) → A → List A → A
   champion better x [] = x
   champion better x (y ∷ ys) = champion better (if better y x then y else x) ys

@@ -33,7 +33,9 @@ number (x ∷ ws) = some (x, ws)
 abbrev pub numbers : ℕ → Reader (List ℕ)
 numbers zero ws = some ([], ws)
 numbers (suc n) [] = none
-numbers (suc n) (x ∷ ws) = numbers n ws >>= λ r. some (x ∷ r .0, r .1)
+numbers (suc n) (x ∷ ws) = do
+  r ← numbers n ws
+  some (x ∷ r .0, r .1)
 
 -- ids and rules are at most 251
 unfoldable pub id-ok : ℕ → Bool
