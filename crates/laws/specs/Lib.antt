@@ -6,3 +6,8 @@ pub mod Orders
 pub mod Champions
 pub mod Totals
 pub mod Runs
+pub mod Sorted
+pub mod Ascending
+pub mod Splits
+pub mod Sides
+pub mod Greatest
