@@ -8,4 +8,9 @@ pub mod Totals
 pub mod Signed
 pub mod Orders
 pub mod Champions
+pub mod Greatest
+pub mod Sorted
+pub mod Ascending
+pub mod Splits
+pub mod Sides
 pub mod Firsts

@@ -1,14 +1,14 @@
 -- Laws of a loop over k below n, from the front. What it has still to do at k is the list `xs k`: element k, then `xs (k + 1)`; from n on nothing.
 -- An invariant says that the answer over the whole list is the answer over `xs k`, put together with what was found so far.
-use mathlib.Core.Path.{_≡_, refl}
+use mathlib.Core.Path.{_≡_}
 use mathlib.Core.Bool.{Bool, true, false}
 use mathlib.Core.List.{List, [], _∷_, map}
-use Prim.Native.Nat.{ℕ, zero, suc, _+_, _-_, _≤_, _<_}
+use Prim.Native.Nat.{ℕ, suc, _+_, _-_, _≤_, _<_}
 use native.Mathlib.Omega.{arith}
 use native.Mathlib.Numerals.{add-one}
 use lib.ListN.{length, getD, drop, drop-of-length-le}
 use lib.Seq.{drop-cons}
-use Rattle.definition.specs.Lists.{from, keep, filter, any, each}
+use Rattle.definition.specs.Lists.{from, any, each}
 
 pub record Runs {A : Type 0} (xs : ℕ → List A) (g : ℕ → A) (n : ℕ) : Type 0 where
   pub more : (k : ℕ) → k < n → xs k ≡ g k ∷ xs (k + 1)

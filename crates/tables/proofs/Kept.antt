@@ -106,5 +106,5 @@ module _ (S R : ℕ) (sites rules : List ℕ) where
         go (m, inl q) = rw q (pair-below m (omega arith) .0)
         go (m, inr q) = rw q (pair-below m (omega arith) .1)
 
-    pub named : Named S rules i
-    named = record { sites = constraint-below; ends = end-below }
+    pub rule-named : Named S rules i
+    rule-named = record { sites = constraint-below; ends = end-below }
