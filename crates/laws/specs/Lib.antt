@@ -11,3 +11,4 @@ pub mod Ascending
 pub mod Splits
 pub mod Sides
 pub mod Greatest
+pub mod Winners
