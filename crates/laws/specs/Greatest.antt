@@ -1,13 +1,14 @@
 -- The greatest of a weight over a list, or 0; and a loop that finds it.
-use mathlib.Core.Path.{_≡_, refl, ap}
+use mathlib.Core.Path.{_≡_, refl, ap, _∙_}
 use mathlib.Core.Logic.{_⊎_, inl, inr}
-use mathlib.Core.List.{List, [], _∷_, List·Memᴰ, List·Memᴰ·head, List·Memᴰ·tail, List·Memᴰ·not-nil, List·Memᴰ·cases-cons}
-use Prim.Native.Nat.{ℕ, _+_, _≤_, _<_, max}
+use mathlib.Core.List.{List, [], _∷_, map, List·Memᴰ, List·Memᴰ·head, List·Memᴰ·tail, List·Memᴰ·not-nil, List·Memᴰ·cases-cons}
+use Prim.Native.Nat.{ℕ, _+_, _-_, _≤_, _<_, max}
 use native.Mathlib.Decide.{decLt}
 use native.Mathlib.Omega.{arith}
 use Rattle.definition.specs.Book.{most}
 use Rattle.definition.specs.Choice.{best}
-use Rattle.laws.specs.Runs.{Runs}
+use Rattle.definition.specs.Lists.{from, upto}
+use Rattle.laws.specs.Runs.{Runs, in-slots}
 
 module _ {A : Type 0} where
   abbrev pub greatest : (A → ℕ) → List A → ℕ
@@ -50,3 +51,7 @@ module _ {A : Type 0} where
 
     pub climb-ends : {best k most : ℕ} → Climbed w xs best k most → n ≤ k → most ≡ max best (greatest w (xs 0))
     climb-ends {best} {k} {most} v h = let z : greatest w (xs k) ≡ 0 = ap (greatest w) (r .none k h) in omega (arith, v .is)
+
+-- the loop's end over the slots 0 to n - 1
+pub climb-slots : {A : Type 0} (w : A → ℕ) (g : ℕ → A) {n m : ℕ} → n ≡ m → {best k most : ℕ} → Climbed w (λ k. map g (from k (n - k))) best k most → n ≤ k → most ≡ max best (greatest w (map g (upto m)))
+climb-slots w g {n} {m} e {best} v h = let z : n - 0 ≡ m = omega arith in climb-ends w (in-slots g n) v h ∙ ap (λ j. max best (greatest w (map g (from 0 j)))) z

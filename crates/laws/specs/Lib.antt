@@ -8,6 +8,7 @@ pub mod Totals
 pub mod Signed
 pub mod Orders
 pub mod Champions
+pub mod Winners
 pub mod Greatest
 pub mod Sorted
 pub mod Ascending

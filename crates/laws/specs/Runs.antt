@@ -1,14 +1,14 @@
 -- Laws of a loop over k below n, from the front. What it has still to do at k is the list `xs k`: element k, then `xs (k + 1)`; from n on nothing.
 -- An invariant says that the answer over the whole list is the answer over `xs k`, put together with what was found so far.
-use mathlib.Core.Path.{_≡_}
+use mathlib.Core.Path.{_≡_, ap}
 use mathlib.Core.Bool.{Bool, true, false}
 use mathlib.Core.List.{List, [], _∷_, map}
 use Prim.Native.Nat.{ℕ, suc, _+_, _-_, _≤_, _<_}
-use native.Mathlib.Omega.{arith}
 use native.Mathlib.Numerals.{add-one}
+use native.Mathlib.Omega.{arith}
 use lib.ListN.{length, getD, drop, drop-of-length-le}
 use lib.Seq.{drop-cons}
-use Rattle.definition.specs.Lists.{from, any, each}
+use Rattle.definition.specs.Lists.{if_then_else_, from, keep, filter, any, each}
 
 pub record Runs {A : Type 0} (xs : ℕ → List A) (g : ℕ → A) (n : ℕ) : Type 0 where
   pub more : (k : ℕ) → k < n → xs k ≡ g k ∷ xs (k + 1)
@@ -42,3 +42,34 @@ module _ {A B : Type 0} {xs : ℕ → List A} {g : ℕ → A} {n : ℕ} (r : Run
 
   pub each-end : n ≤ k → (b : B) → each f (xs k) b ≡ b
   each-end h b = rw (r .none k h)
+
+-- A LOOP THAT COUNTS those of a slice that pass a test: n of them before k
+abbrev pub one : Bool → ℕ
+one t = if t then 1 else 0
+
+one-le : (t : Bool) → one t ≤ 1
+one-le true = omega arith
+one-le false = omega arith
+
+one-kept : {A : Type 0} (t : Bool) (x : A) (xs : List A) → length (keep t x xs) ≡ one t + length xs
+one-kept true x xs = omega arith
+one-kept false x xs = omega arith
+
+pub record Tallied (p : ℕ → Bool) (l : List ℕ) (k n : ℕ) : Type 0 where
+  pub within : k ≤ length l
+  pub few : n ≤ k
+  pub is : n + length (filter p (drop k l)) ≡ length (filter p l)
+
+pub tally-starts : (p : ℕ → Bool) (l : List ℕ) → Tallied p l 0 0
+tally-starts p l = record { within = omega arith; few = omega arith; is = omega arith }
+
+module _ {p : ℕ → Bool} {l : List ℕ} {k n : ℕ} (v : Tallied p l k n) where
+  pub tally-turn : k < length l → {u : Bool} {r : ℕ} → u ≡ p (getD l k 0) → r ≡ n + one u → Tallied p l (k + 1) r
+  tally-turn h {u} {r} eu er =
+      let m : length (filter p (drop k l)) ≡ one (p (getD l k 0)) + length (filter p (drop (k + 1) l)) = rw (in-slice l .more k h) (one-kept (p (getD l k 0)) (getD l k 0) (filter p (drop (k + 1) l))) in
+      let z : one u ≡ one (p (getD l k 0)) = ap one eu in
+      let y = one-le u in
+      record { within = omega arith; few = omega (arith, v .few); is = omega (arith, v .is) }
+
+  pub tally-ends : length l ≤ k → n ≡ length (filter p l)
+  tally-ends h = let z : length (filter p (drop k l)) ≡ 0 = rw (in-slice l .none k h) in omega (arith, v .is)

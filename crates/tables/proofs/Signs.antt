@@ -1,9 +1,9 @@
 -- Signed numbers are ordered as their words are, the sign's bit turned; and two words of one number are one word.
-use mathlib.Core.Path.{_≡_, refl, sym, subst, _∙_}
+use mathlib.Core.Path.{_≡_, sym, subst, _∙_}
 use mathlib.Core.Logic.{_⊎_, inl, inr}
 use mathlib.Core.Bool.{true, false}
 use mathlib.Core.List.{List}
-use Prim.Native.Nat.{ℕ, _-_, _^_, _≤_, _<_, compare, Ordering, Ordering·lt, Ordering·eq, Ordering·gt}
+use Prim.Native.Nat.{ℕ, _-_, _^_, _≤_, _<_, compare}
 use native.Mathlib.Omega.{arith}
 use lib.Dec.{eqb, ltb, leb}
 use lib.Signed.{leZ}
@@ -11,9 +11,10 @@ use borrow.Author.Tests.{eqb-true, eq-eqb, leb-true, le-leb, lt-leb, ltb-true, l
 use Rattle.definition.specs.Book.{slots}
 use Rattle.definition.specs.Lists.{compare-signed, same-number}
 use Rattle.definition.specs.Tables.{signed, rule-at}
-use Rattle.laws.specs.Orders.{lt-is, lt-of, eq-of, eq-is, gt-of, same-number-equal, same-number-self}
+use Rattle.laws.specs.Orders.{lt-is, same-number-equal, same-number-self}
 use Rattle.laws.specs.Signed.{leℤ-refl}
 use Rattle.laws.specs.Tests.{split}
+use Rattle.laws.specs.Winners.{gt-is, same-compare}
 use Rattle.tables.specs.Held.{Words, biased, rank-of}
 
 same-order : (x y u v : ℕ) → (x ≤ y → u ≤ v) → (u ≤ v → x ≤ y) → leb x y ≡ leb u v
@@ -53,22 +54,6 @@ same-word a b ha hb = go (split (same-number (signed a) (signed b))) (split (eqb
     go (inr e) (inr q) = q ∙ sym e
 
 -- THE THREE-WAY ORDER
-gt-is : (m n : ℕ) → n < m → compare m n ≡ Ordering·gt
-gt-is m n h = go (compare m n) refl
-  where
-    go : (o : Ordering) → compare m n ≡ o → o ≡ Ordering·gt
-    go Ordering·lt e = absurd (let z = lt-of m n e in omega arith)
-    go Ordering·eq e = absurd (let z = eq-of m n e in omega arith)
-    go Ordering·gt e = refl
-
-same-compare : (x y u v : ℕ) → (x < y → u < v) → (x ≡ y → u ≡ v) → (y < x → v < u) → compare x y ≡ compare u v
-same-compare x y u v f g h = go (compare x y) refl
-  where
-    go : (o : Ordering) → compare x y ≡ o → o ≡ compare u v
-    go Ordering·lt e = sym (lt-is u v (f (lt-of x y e)))
-    go Ordering·eq e = sym (eq-is u v (g (eq-of x y e)))
-    go Ordering·gt e = sym (gt-is u v (h (gt-of x y e)))
-
 pub signed-compare : (a b : ℕ) → a < 2 ^ 32 → b < 2 ^ 32 → compare-signed (signed a) (signed b) ≡ compare (biased a) (biased b)
 signed-compare a b ha hb = go (split (ltb a 0x8000_0000)) (split (ltb b 0x8000_0000))
   where

@@ -3,10 +3,10 @@ use mathlib.Core.Bool.{Bool, _||_}
 use mathlib.Core.List.{List, map}
 use Prim.Native.Nat.{ℕ, _+_, _-_, _*_, _%_, _^_, _≤_, _<_}
 use lib.ListN.{length, getD}
-use Rattle.definition.specs.Lists.{_is_, if_then_else_, from}
-use Rattle.definition.specs.Book.{Pattern, Pair, slots, pair-slots, impure-slots}
-use Rattle.definition.specs.Tables.{signed, site-words, site-word, rule-words, rule-word, constraint-start, pair-start, pair-at}
+use Rattle.definition.specs.Book.{slots, pair-slots, impure-slots, Pattern, Pair}
 use Rattle.definition.specs.Choice.{Test, on, same}
+use Rattle.definition.specs.Lists.{_is_, if_then_else_, from}
+use Rattle.definition.specs.Tables.{signed, site-words, site-word, rule-words, rule-word, constraint-start, pair-start, pair-at}
 use Rattle.tables.specs.declared.Shape.{Shape}
 
 -- site s stands in the table, and its count is that of a site record

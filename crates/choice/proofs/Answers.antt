@@ -1,0 +1,86 @@
+-- What the code's small answers are of tests and of their worth.
+use mathlib.Core.Path.{_≡_, sym, ap, subst, _∙_}
+use mathlib.Core.Bool.{Bool, true, false, _&&_, not}
+use mathlib.Core.List.{List}
+use Prim.Native.Nat.{ℕ, _+_, _-_, _*_, _≤_, _<_, max}
+use native.Mathlib.Omega.{arith}
+use lib.Dec.{eqb, leb}
+use lib.ListN.{length, getD}
+use borrow.Author.Tests.{eq-eqb, ne-eqb, lt-ltb, le-ltb}
+use Rattle.definition.specs.Book.{most, slots, Rule, linked}
+use Rattle.definition.specs.Choice.{Test, has, testable, best, on, same}
+use Rattle.definition.specs.Lists.{if_then_else_, filter}
+use Rattle.definition.specs.Scope.{root}
+use Rattle.definition.specs.Tables.{rule-at}
+use Rattle.laws.specs.Greatest.{greatest}
+use Rattle.tables.specs.Held.{rank-of, test-of, Named}
+use Rattle.order.specs.Parts.{Names, rule-tests, lack-top, passes-top}
+use Rattle.choice.specs.Worth.{same-root, open-at, state-at, count-of, last-code, code-room, code, key-of, worth, worth-of, pair-worth, constraints-worth, pairs-worth, rank-above, top-of, rule-worth, part-worth}
+
+module _ (st root : List ℕ) (a b : ℕ) where
+  pub shut : testable st a ≡ false → false ≡ open-at st root (test-of a b)
+  unfolding open-at
+  shut e = go (eqb b 0)
+    where
+      go : (t : Bool) → false ≡ open-at st root (if t then on a else same a b)
+      go true = sym e
+      go false = rw e
+
+  pub open-one : testable st a ≡ true → b ≡ 0 → true ≡ open-at st root (test-of a b)
+  unfolding open-at
+  open-one e z = rw (eq-eqb b 0 z) (sym e)
+
+  pub open-two : testable st a ≡ true → (b ≡ 0 → ⊥) → {t c r : Bool} → t ≡ testable st b → r ≡ t && not c → c ≡ same-root root a b → r ≡ open-at st root (test-of a b)
+  unfolding open-at
+  open-two e z et er ec = rw (ne-eqb b 0 z, e, er, et, ec)
+
+module _ (rules st root part : List ℕ) (t : Test) where
+  pub worth-shut : open-at st root t ≡ false → 0 ≡ worth-of rules st root part t
+  unfolding worth-of worth
+  worth-shut e = rw e
+
+  pub worth-none : open-at st root t ≡ true → count-of rules t part ≡ 0 → 0 ≡ worth-of rules st root part t
+  unfolding worth-of worth
+  worth-none e z = rw (e, z)
+
+  pub worth-some : open-at st root t ≡ true → {n s c : ℕ} → n ≡ count-of rules t part → (n ≡ 0 → ⊥) → s ≡ state-at st t → c ≡ code t → (n * 4 + s) * code-room + (last-code - c) ≡ worth-of rules st root part t
+  unfolding worth-of worth key-of
+  worth-some e {n} en z es ec = rw (e, ← en, ← es, ← ec, lt-ltb 0 n (omega arith))
+
+module _ (w : Test → ℕ) (r : Rule) (x y : ℕ) where
+  pub pair-some : x < y → linked (r .pairs) x y ≡ true → w (test-of x y) ≡ pair-worth w r x y
+  unfolding pair-worth
+  pair-some h e = rw (lt-ltb x y h, e, ne-eqb y 0 (λ z. omega arith))
+
+  pub pair-unlinked : (b : ℕ) → x < y → linked (r .pairs) x y ≡ false → b ≡ max b (pair-worth w r x y)
+  unfolding pair-worth
+  pair-unlinked b h e = rw (lt-ltb x y h, e) (omega arith)
+
+  pub pair-late : (b : ℕ) → y ≤ x → b ≡ max b (pair-worth w r x y)
+  unfolding pair-worth
+  pair-late b h = rw (le-ltb x y h) (omega arith)
+
+module _ (w : Test → ℕ) (rules : List ℕ) (top i best : ℕ) {p : ℕ} (ep : p ≡ rank-of rules i) where
+  pub rule-top : p + 1 ≡ top → {m r : ℕ} → m ≡ max best (constraints-worth w rules i) → r ≡ max m (pairs-worth w rules i) → r ≡ max best (rule-worth w rules top i)
+  unfolding rule-worth rank-above
+  rule-top e em er = rw (eq-eqb (rank-of rules i + 1) top (ap (λ x. x + 1) (sym ep) ∙ e)) (omega arith)
+
+  pub rule-low : (p + 1 ≡ top → ⊥) → best ≡ max best (rule-worth w rules top i)
+  unfolding rule-worth rank-above
+  rule-low e = rw (ne-eqb (rank-of rules i + 1) top (λ z. e (ap (λ x. x + 1) ep ∙ z))) (omega arith)
+
+-- a rule passes: its words say so
+pub passes-by : (rules : List ℕ) (t : Test) (top : ℕ) {x i : ℕ} → i ≡ x → {u : Bool} {p : ℕ} → u ≡ has (rule-at slots rules i) t → p ≡ rank-of rules i → u && leb top (p + 1) ≡ passes-top rules t top x
+unfolding passes-top rule-tests
+passes-by rules t top ei eu ep = rw (eu, ep, ei)
+
+pub counted-all : (rules : List ℕ) (t : Test) (part : List ℕ) (top n : ℕ) → top ≡ lack-top (rule-tests rules t) (rank-of rules) part → n ≡ length (filter (passes-top rules t top) part) → n ≡ count-of rules t part
+unfolding count-of
+counted-all rules t part top n e en = en ∙ ap (λ z. length (filter (passes-top rules t z) part)) e
+
+pub named-at : {rules part : List ℕ} → Names most rules part → (k : ℕ) → k < length part → {i : ℕ} → i ≡ getD part k 0 → Named most rules i
+named-at {rules} p k h e = subst (Named most rules) (sym e) (p .named k h)
+
+pub part-top : (w : Test → ℕ) (rules part : List ℕ) {b top : ℕ} → b ≡ max 0 (greatest (rule-worth w rules top) part) → top ≡ top-of rules part → b ≡ part-worth w rules part
+unfolding part-worth
+part-top w rules part {b} {top} e f = (let z : b ≡ greatest (rule-worth w rules top) part = omega arith in z) ∙ ap (λ k. greatest (rule-worth w rules k) part) f

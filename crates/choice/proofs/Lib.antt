@@ -1,0 +1,5 @@
+-- How the search for the greatest worth finds the definition's choice.
+pub mod Answers
+pub mod Tops
+pub mod Keys
+pub mod Whole

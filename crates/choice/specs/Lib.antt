@@ -1,0 +1,2 @@
+-- What the contracts of `choice` cite beside the definition.
+pub mod Worth

@@ -1,0 +1,321 @@
+// The best test of a part of the order.
+use order::wide;
+ghost use mathlib.Core.Path.{_≡_};
+ghost use mathlib.Core.Bool.{_&&_};
+ghost use Prim.Native.Nat.{_+_, _<_, _≤_, max, min};
+ghost use lib.Dec.{leb};
+ghost use Rattle.definition.specs.Lists.{if_then_else_};
+ghost use Rattle.definition.specs.Book.{most, slots};
+ghost use Rattle.definition.specs.Tables.{rule-at};
+ghost use Rattle.definition.specs.Choice.{testable};
+ghost use Rattle.tables.specs.Held.{Held, Named, test-of};
+ghost use Rattle.order.specs.Parts.{Parts, Names};
+ghost use Rattle.choice.specs.Worth.{same-root, open-at, state-at, count-of, code, worth-of, decoded, constraints-worth, pair-worth, end-worth, pairs-worth, top-of, rule-worth, part-worth, Chosen};
+
+// No test's code is above the last; the room for codes in a key is a power of two above it.
+const LAST_CODE: usize = 65791;
+
+const CODE_ROOM: usize = 131072;
+
+pub enum Best {
+    Match(u8),
+    Equal(u8, u8),
+    None,
+}
+
+fn more(had: bool, p: usize, top: usize, n: usize) -> usize
+    requires { ⌜ (p < 4294967296) × (n < most) ⌝ }
+    ensures { λ r. ⌜ r ≡ n + (if had && leb top (p + 1) then 1 else 0) ⌝ }
+{
+    if had {
+        if top <= p + 1 {
+            return n + 1;
+        }
+    }
+    n
+}
+
+// Internal: how many rules of the part a test counts: those that have it, less those that a higher rule without it bars.
+pub fn count(rules: &[u32], part: &[u8], a: usize, b: usize) -> usize
+    requires { ⌜ Parts (now rules) (now part) ⌝ }
+    ensures { λ r. ⌜ (r ≡ count-of (now (rules .entry)) (test-of a b) (now (part .entry))) × (r ≤ most) ⌝ }
+{
+    let top = order::lacking(rules, part, a, b);
+    let mut n: usize = 0;
+    let mut k: usize = 0;
+    while k < part.len() {
+        let i = wide(part[k]);
+        n = more(
+            tables::rule_has(rules, i, a, b),
+            tables::wide(tables::priority(rules, i)),
+            top,
+            n,
+        );
+        k += 1;
+    }
+    n
+}
+
+// Neither Unavailable nor Matched.
+fn is_testable(states: &[u8; 252], s: usize) -> bool
+    requires { ⌜ s < most ⌝ }
+    ensures { λ r. ⌜ r ≡ testable (now (states .entry)) s ⌝ }
+{
+    let e = states[s];
+    if e == 0 {
+        return false;
+    }
+    e != 3
+}
+
+fn same_class(root: &[u8; 252], x: usize, y: usize) -> bool
+    requires { ⌜ (x < most) × (y < most) ⌝ }
+    ensures { λ r. ⌜ r ≡ same-root (now (root .entry)) x y ⌝ }
+{
+    let e = root[x];
+    if e == 0 {
+        return false;
+    }
+    e == root[y]
+}
+
+fn is_open(states: &[u8; 252], root: &[u8; 252], a: usize, b: usize) -> bool
+    requires { ⌜ (a < most) × (b < most) ⌝ }
+    ensures { λ r. ⌜ r ≡ open-at (now (states .entry)) (now (root .entry)) (test-of a b) ⌝ }
+{
+    if !is_testable(states, a) {
+        return false;
+    }
+    if b == 0 {
+        return true;
+    }
+    if !is_testable(states, b) {
+        return false;
+    }
+    !same_class(root, a, b)
+}
+
+fn lesser(x: u8, y: u8) -> usize
+    ensures { λ r. ⌜ (r ≡ min x y) × (r < 256) ⌝ }
+{
+    if x < y { wide(x) } else { wide(y) }
+}
+
+// A pair has the lesser state.
+fn state_of(states: &[u8; 252], a: usize, b: usize) -> usize
+    requires { ⌜ (a < most) × (b < most) ⌝ }
+    ensures { λ r. ⌜ (r ≡ state-at (now (states .entry)) (test-of a b)) × (r < 256) ⌝ }
+{
+    if b == 0 {
+        return wide(states[a]);
+    }
+    lesser(states[a], states[b])
+}
+
+// Tests in the order of the last tie: Match before Equal, then smaller ids.
+fn code_of(a: usize, b: usize) -> usize
+    requires { ⌜ (a < most) × (b < most) ⌝ }
+    ensures { λ r. ⌜ (r ≡ code (test-of a b)) × (r ≤ 65791) ⌝ }
+{
+    if b == 0 {
+        return a;
+    }
+    256 * a + b + 256
+}
+
+// What a test is worth.
+fn test_worth(
+    rules: &[u32],
+    states: &[u8; 252],
+    root: &[u8; 252],
+    part: &[u8],
+    a: usize,
+    b: usize,
+) -> usize
+    requires { ⌜ Parts (now rules) (now part) × ((a < most) × (b < most)) ⌝ }
+    ensures { λ r. ⌜ r ≡ worth-of (now (rules .entry)) (now (states .entry)) (now (root .entry)) (now (part .entry)) (test-of a b) ⌝ }
+{
+    if !is_open(states, root, a, b) {
+        return 0;
+    }
+    let n = count(rules, part, a, b);
+    if n == 0 {
+        return 0;
+    }
+    (n * 4 + state_of(states, a, b)) * CODE_ROOM + (LAST_CODE - code_of(a, b))
+}
+
+fn greater(x: usize, y: usize) -> usize
+    ensures { λ r. ⌜ r ≡ max x y ⌝ }
+{
+    if x < y { y } else { x }
+}
+
+// The greatest worth of a constraint of rule `i`, or `best`.
+fn of_constraints(
+    rules: &[u32],
+    states: &[u8; 252],
+    root: &[u8; 252],
+    part: &[u8],
+    i: usize,
+    best: usize,
+) -> usize
+    requires { ⌜ Parts (now rules) (now part) × (Held (now rules) i × Named most (now rules) i) ⌝ }
+    ensures { λ r. ⌜ r ≡ max best (constraints-worth (worth-of (now (rules .entry)) (now (states .entry)) (now (root .entry)) (now (part .entry))) (now (rules .entry)) i) ⌝ }
+{
+    let n = tables::rule_id(rules, i, 3);
+    let mut most = best;
+    let mut k: usize = 0;
+    while k < n {
+        let s = tables::rule_id(rules, i, 6 + 4 * k);
+        most = greater(most, test_worth(rules, states, root, part, s, 0));
+        k += 1;
+    }
+    most
+}
+
+// The same of the pair of sites `x` and `y`, if rule `i` has it.
+fn of_two(
+    rules: &[u32],
+    states: &[u8; 252],
+    root: &[u8; 252],
+    part: &[u8],
+    i: usize,
+    x: usize,
+    y: usize,
+    best: usize,
+) -> usize
+    requires { ⌜ Parts (now rules) (now part) × (Held (now rules) i × ((x < most) × (y < most))) ⌝ }
+    ensures { λ r. ⌜ r ≡ max best (pair-worth (worth-of (now (rules .entry)) (now (states .entry)) (now (root .entry)) (now (part .entry))) (rule-at slots (now (rules .entry)) i) x y) ⌝ }
+{
+    if x < y {
+        if tables::rule_links(rules, i, x, y) {
+            return greater(best, test_worth(rules, states, root, part, x, y));
+        }
+    }
+    best
+}
+
+// The same of the pairs of `x` and an end of a pair of rule `i`.
+fn of_end(
+    rules: &[u32],
+    states: &[u8; 252],
+    root: &[u8; 252],
+    part: &[u8],
+    i: usize,
+    x: usize,
+    best: usize,
+) -> usize
+    requires { ⌜ Parts (now rules) (now part) × (Held (now rules) i × (Named most (now rules) i × (x < most))) ⌝ }
+    ensures { λ r. ⌜ r ≡ max best (end-worth (worth-of (now (rules .entry)) (now (states .entry)) (now (root .entry)) (now (part .entry))) (now (rules .entry)) i x) ⌝ }
+{
+    let n = 2 * tables::rule_id(rules, i, 4);
+    let mut most = best;
+    let mut k: usize = 0;
+    while k < n {
+        let y = tables::rule_id(rules, i, 22 + k);
+        most = of_two(rules, states, root, part, i, x, y, most);
+        k += 1;
+    }
+    most
+}
+
+// The same of the pairs of rule `i`.
+fn of_pairs(
+    rules: &[u32],
+    states: &[u8; 252],
+    root: &[u8; 252],
+    part: &[u8],
+    i: usize,
+    best: usize,
+) -> usize
+    requires { ⌜ Parts (now rules) (now part) × (Held (now rules) i × Named most (now rules) i) ⌝ }
+    ensures { λ r. ⌜ r ≡ max best (pairs-worth (worth-of (now (rules .entry)) (now (states .entry)) (now (root .entry)) (now (part .entry))) (now (rules .entry)) i) ⌝ }
+{
+    let n = 2 * tables::rule_id(rules, i, 4);
+    let mut most = best;
+    let mut k: usize = 0;
+    while k < n {
+        let x = tables::rule_id(rules, i, 22 + k);
+        most = of_end(rules, states, root, part, i, x, most);
+        k += 1;
+    }
+    most
+}
+
+// The same of the tests of rule `i`, if its priority is the highest.
+fn of_rule(
+    rules: &[u32],
+    states: &[u8; 252],
+    root: &[u8; 252],
+    part: &[u8],
+    top: usize,
+    i: usize,
+    best: usize,
+) -> usize
+    requires { ⌜ Parts (now rules) (now part) × (Held (now rules) i × Named most (now rules) i) ⌝ }
+    ensures { λ r. ⌜ r ≡ max best (rule-worth (worth-of (now (rules .entry)) (now (states .entry)) (now (root .entry)) (now (part .entry))) (now (rules .entry)) top i) ⌝ }
+{
+    if tables::wide(tables::priority(rules, i)) + 1 == top {
+        let most = of_constraints(rules, states, root, part, i, best);
+        return of_pairs(rules, states, root, part, i, most);
+    }
+    best
+}
+
+// One more than the highest priority in the part.
+fn top_of(rules: &[u32], part: &[u8]) -> usize
+    requires { ⌜ Parts (now rules) (now part) ⌝ }
+    ensures { λ r. ⌜ r ≡ top-of (now (rules .entry)) (now (part .entry)) ⌝ }
+{
+    let mut most: usize = 0;
+    let mut k: usize = 0;
+    while k < part.len() {
+        let i = wide(part[k]);
+        most = greater(most, tables::wide(tables::priority(rules, i)) + 1);
+        k += 1;
+    }
+    most
+}
+
+// The greatest worth of a test. Only a test that a rule of highest priority has can count a rule.
+fn best_worth(rules: &[u32], states: &[u8; 252], root: &[u8; 252], part: &[u8]) -> usize
+    requires { ⌜ Parts (now rules) (now part) × Names most (now rules) (now part) ⌝ }
+    ensures { λ r. ⌜ r ≡ part-worth (worth-of (now (rules .entry)) (now (states .entry)) (now (root .entry)) (now (part .entry))) (now (rules .entry)) (now (part .entry)) ⌝ }
+{
+    let top = top_of(rules, part);
+    let mut most: usize = 0;
+    let mut k: usize = 0;
+    while k < part.len() {
+        let i = wide(part[k]);
+        most = of_rule(rules, states, root, part, top, i, most);
+        k += 1;
+    }
+    most
+}
+
+// The test of a worth.
+fn test_of(key: usize) -> Best
+    ensures { λ r. ⌜ r ≡ decoded key ⌝ }
+{
+    if key == 0 {
+        return Best::None;
+    }
+    let low = key % CODE_ROOM;
+    if LAST_CODE < low {
+        return Best::None;
+    }
+    let c = LAST_CODE - low;
+    if c < 256 {
+        return Best::Match(c as u8);
+    }
+    Best::Equal(((c - 256) / 256) as u8, ((c - 256) % 256) as u8)
+}
+
+// Internal: the best test of the part's rules, in a scope of these states and class roots.
+pub fn best_control_flow(rules: &[u32], states: &[u8; 252], root: &[u8; 252], part: &[u8]) -> Best
+    requires { ⌜ Parts (now rules) (now part) × Names most (now rules) (now part) ⌝ }
+    ensures { λ r. ⌜ Chosen (now (rules .entry)) (now (states .entry)) (now (root .entry)) (now (part .entry)) r ⌝ }
+{
+    test_of(best_worth(rules, states, root, part))
+}
