@@ -6,6 +6,7 @@ pub mod Runs
 pub mod Loops
 pub mod Totals
 pub mod Signed
+pub mod Stores
 pub mod Orders
 pub mod Champions
 pub mod Firsts
