@@ -3,6 +3,7 @@ pub mod Tests
 pub mod Members
 pub mod Ranges
 pub mod Runs
+pub mod Asks
 pub mod Loops
 pub mod Totals
 pub mod Signed
