@@ -1,6 +1,6 @@
 -- `binds`, by the tests that the code makes one after another, and the places of a pattern.
 use mathlib.Core.Path.{_≡_, refl, sym, _∙_}
-use mathlib.Core.Bool.{Bool, true, false, _&&_}
+use mathlib.Core.Bool.{Bool, true, false, and-true, and-false}
 use mathlib.Core.List.{List, [], _∷_, map, map-map}
 use mathlib.Core.Logic.{_⊎_, inl, inr}
 use mathlib.Core.Option.{none, some}
@@ -16,14 +16,6 @@ use Rattle.definition.specs.Tables.{signed}
 use Rattle.definition.specs.Tree.{word, place-word}
 use Rattle.laws.specs.Tests.{split, every-at}
 use Rattle.laws.specs.Asks.{in-range, first-skip, first-hit, first-end}
-
-and-true : (x : Bool) → x && true ≡ x
-and-true true = refl
-and-true false = refl
-
-and-false : (x : Bool) → x && false ≡ false
-and-false true = refl
-and-false false = refl
 
 heads-one : (s : ℕ) (l : List ℕ) → length l ≡ 1 → heads s l ≡ getD l 0 0 is s
 heads-one s [] h = absurd (omega arith)

@@ -1,7 +1,7 @@
 -- A merge in a store of sets joins two classes as the definition's labels do.
 use mathlib.Core.Path.{_≡_, refl, sym, _∙_, ap, ap₂}
 use mathlib.Core.Logic.{_⊎_, inl, inr}
-use mathlib.Core.Bool.{Bool, true, false, _&&_, _||_}
+use mathlib.Core.Bool.{Bool, true, false, _&&_, _||_, and-true, and-false, or-false, or-comm}
 use mathlib.Core.List.{List, _∷_}
 use Prim.Native.Nat.{ℕ, zero, suc, _+_}
 use native.Mathlib.Omega.{arith}
@@ -24,23 +24,6 @@ is-sym m n = go (split (n is m))
     go : (n is m ≡ true) ⊎ (n is m ≡ false) → m is n ≡ n is m
     go (inl e) = eq-eqb m n (sym (eqb-true n m e)) ∙ sym e
     go (inr e) = ne-eqb m n (λ q. eqb-false n m e (sym q)) ∙ sym e
-
-or-false : (x : Bool) → x || false ≡ x
-or-false true = refl
-or-false false = refl
-
-and-false : (x : Bool) → x && false ≡ false
-and-false true = refl
-and-false false = refl
-
-and-true : (x : Bool) → x && true ≡ x
-and-true true = refl
-and-true false = refl
-
-or-sym : (x y : Bool) → x || y ≡ y || x
-or-sym true true = refl
-or-sym true false = refl
-or-sym false y = sym (or-false y)
 
 -- two labels are one after p is renamed q: they were, or one was p and the other q
 one-label : (p q m n : ℕ) → renamed p q m is renamed p q n ≡ m is n || ((m is p && n is q) || (m is q && n is p))
@@ -138,8 +121,8 @@ abbrev one-by : (ℕ → ℕ) → ℕ → ℕ → ℕ → ℕ → Bool
 one-by l x y u v = l u is l v || ((l u is y && l v is x) || (l u is x && l v is y))
 
 module _ (t : Sets) (h : Rooted t) (x y a j b k : ℕ) (ex : t x ≡ in-set a j) (ey : t y ≡ in-set b k) where
-  abbrev lab : ℕ → ℕ
-  lab z = label-in (t z) z
+  abbrev tag : ℕ → ℕ
+  tag z = label-in (t z) z
 
   not-root : (w r i z : ℕ) → t w ≡ in-set r i → t z ≡ unmerged → z ≡ r → ⊥
   not-root w r i z e f g =
@@ -148,28 +131,28 @@ module _ (t : Sets) (h : Rooted t) (x y a j b k : ℕ) (ex : t x ≡ in-set a j)
       let o : _≡_ {A = ℕ} 0 1 = cc in
       omega arith
 
-  move-label : (w p i q m z : ℕ) → t w ≡ in-set p i → label-in (move p q m t z) z ≡ renamed p q (lab z)
+  move-label : (w p i q m z : ℕ) → t w ≡ in-set p i → label-in (move p q m t z) z ≡ renamed p q (tag z)
   move-label w p i q m z e = moved-label p q m z (t z) (λ f g. not-root w p i z e f g)
 
-  into-second : (m u v : ℕ) → label-in (move a b m t u) u is label-in (move a b m t v) v ≡ one-by lab a b u v
+  into-second : (m u v : ℕ) → label-in (move a b m t u) u is label-in (move a b m t v) v ≡ one-by tag a b u v
   into-second m u v =
       rw (move-label x a j b m u ex, move-label x a j b m v ex)
-      (one-label a b (lab u) (lab v) ∙ ap (λ (o : Bool). lab u is lab v || o) (or-sym (lab u is a && lab v is b) (lab u is b && lab v is a)))
+      (one-label a b (tag u) (tag v) ∙ ap (λ (o : Bool). tag u is tag v || o) (or-comm (tag u is a && tag v is b) (tag u is b && tag v is a)))
 
-  into-first : (m u v : ℕ) → label-in (move b a m t u) u is label-in (move b a m t v) v ≡ one-by lab a b u v
-  into-first m u v = rw (move-label y b k a m u ey, move-label y b k a m v ey) (one-label b a (lab u) (lab v))
+  into-first : (m u v : ℕ) → label-in (move b a m t u) u is label-in (move b a m t v) v ≡ one-by tag a b u v
+  into-first m u v = rw (move-label y b k a m u ey, move-label y b k a m v ey) (one-label b a (tag u) (tag v))
 
-  within-one : a ≡ b → (u v : ℕ) → lab u is lab v ≡ one-by lab a b u v
+  within-one : a ≡ b → (u v : ℕ) → tag u is tag v ≡ one-by tag a b u v
   within-one e u v =
-      ap₂ (λ (m n : ℕ). m is n) (sym (renamed-same b (lab u))) (sym (renamed-same b (lab v)))
-      ∙ one-label b b (lab u) (lab v)
-      ∙ ap (λ (o : ℕ). one-by lab o b u v) (sym e)
+      ap₂ (λ (m n : ℕ). m is n) (sym (renamed-same b (tag u))) (sym (renamed-same b (tag v)))
+      ∙ one-label b b (tag u) (tag v)
+      ∙ ap (λ (o : ℕ). one-by tag o b u v) (sym e)
 
-  join-label : (u v : ℕ) → label-in (join-classes (in-set a j) (in-set b k) t u) u is label-in (join-classes (in-set a j) (in-set b k) t v) v ≡ one-by lab a b u v
+  join-label : (u v : ℕ) → label-in (join-classes (in-set a j) (in-set b k) t u) u is label-in (join-classes (in-set a j) (in-set b k) t v) v ≡ one-by tag a b u v
   join-label u v = go (split (a is b)) (split (j below k)) (split (k below j))
     where
       go : (a is b ≡ true) ⊎ (a is b ≡ false) → (j below k ≡ true) ⊎ (j below k ≡ false) → (k below j ≡ true) ⊎ (k below j ≡ false)
-          → label-in (join-classes (in-set a j) (in-set b k) t u) u is label-in (join-classes (in-set a j) (in-set b k) t v) v ≡ one-by lab a b u v
+          → label-in (join-classes (in-set a j) (in-set b k) t u) u is label-in (join-classes (in-set a j) (in-set b k) t v) v ≡ one-by tag a b u v
       go (inl e) f g = rw e (within-one (eqb-true a b e) u v)
       go (inr e) (inl f) g = rw (e, f) (into-second k u v)
       go (inr e) (inr f) (inl g) = rw (e, f, g) (into-first j u v)

@@ -1,6 +1,6 @@
 -- A pass over the sites in id order, as a loop makes it, and the tests that it asks of a site of the table.
 use mathlib.Core.Path.{_≡_, refl}
-use mathlib.Core.Bool.{Bool, true, false, _&&_}
+use mathlib.Core.Bool.{Bool, true, false, and-true}
 use mathlib.Core.List.{List}
 use Prim.Native.Nat.{ℕ, _+_, _≤_, _<_}
 use native.Mathlib.Omega.{arith}
@@ -37,10 +37,6 @@ module _ {test : List ℕ → ℕ → Bool} {v x : ℕ} {s r : Scope} (h : Swept
   sweep-ends {n} a b = let e : n ≡ x = omega arith in rw e (h .so-far)
 
 -- READY
-and-true : (x : Bool) → x && true ≡ x
-and-true true = refl
-and-true false = refl
-
 module _ {b : Book} {S : ℕ} {t : List ℕ} (d : Drawn S t b) (st : List ℕ) (x : ℕ) (h : x < S) where
   pub ready-there : (_≡_ {A = ℕ} (state st x) 0 → ⊥) → ready b st x ≡ false
   unfolding ready every

@@ -29,33 +29,26 @@ pub fn use_expr(
     if EMITTED <= scope.states[x] {
         return Used { scope, at, lets: 0 };
     }
-    let mut next = scope;
-    next.states[x] = EMITTED;
+    let mut scope = scope;
+    scope.states[x] = EMITTED;
     let count = tables::source_count(sites, x);
-    let mut pos = at;
+    let mut at = at;
     let mut lets: u32 = 0;
     let mut k: usize = 0;
     while k < count {
         let source = tables::source(sites, x, k);
-        let used = use_expr(sites, n, next, source, room, pos);
-        next = used.scope;
-        pos = used.at;
+        let used = use_expr(sites, n, scope, source, room, at);
+        scope = used.scope;
+        at = used.at;
         lets += used.lets;
         k += 1;
     }
     if tables::never_listed(sites, x) {
-        return Used {
-            scope: next,
-            at: pos,
-            lets,
-        };
+        return Used { scope, at, lets };
     }
-    let end = room::put_word(room, pos, x as u32);
-    Used {
-        scope: next,
-        at: end,
-        lets: lets + 1,
-    }
+    at = room::put_word(room, at, x as u32);
+    lets += 1;
+    Used { scope, at, lets }
 }
 
 // Internal: uses sites one after another.
@@ -70,23 +63,19 @@ pub fn use_all(
     requires { ⌜ Table n (now sites) × (Ids n (now ids) × (at ≤ length (now room) + 1)) ⌝ }
     ensures { λ r. ⌜ ((b : Book) → Drawn n (now (sites .entry)) b → Placed (each (use-site b) (now (ids .entry))) scope (now (room .entry)) at r (now (room .exit))) ⌝ }
 {
-    let mut next = scope;
-    let mut pos = at;
+    let mut scope = scope;
+    let mut at = at;
     let mut lets: u32 = 0;
     let mut k: usize = 0;
     while k < ids.len() {
         let x = tables::wide(ids[k]);
-        let used = use_expr(sites, n, next, x, room, pos);
-        next = used.scope;
-        pos = used.at;
+        let used = use_expr(sites, n, scope, x, room, at);
+        scope = used.scope;
+        at = used.at;
         lets += used.lets;
         k += 1;
     }
-    Used {
-        scope: next,
-        at: pos,
-        lets,
-    }
+    Used { scope, at, lets }
 }
 
 // Uses the sites of a test: `a` alone where `b` is 0, and else a before b.
@@ -106,14 +95,12 @@ fn use_test(
     if b == 0 {
         return one;
     }
-    let between = one.scope;
-    let two = use_expr(sites, n, between, b, room, one.at);
-    let after = two.scope;
-    Used {
-        scope: after,
-        at: two.at,
-        lets: one.lets + two.lets,
-    }
+    let scope = one.scope;
+    let two = use_expr(sites, n, scope, b, room, one.at);
+    let scope = two.scope;
+    let at = two.at;
+    let lets = one.lets + two.lets;
+    Used { scope, at, lets }
 }
 
 // Uses the impure sites of a rule in order, then its result.
@@ -133,14 +120,12 @@ fn use_rule(
     let count = tables::impure_count(rules, i);
     let one = use_all(sites, n, scope, &rules[first..first + count], room, at);
     let result = tables::wide(tables::result(rules, i));
-    let between = one.scope;
-    let two = use_expr(sites, n, between, result, room, one.at);
-    let after = two.scope;
-    Used {
-        scope: after,
-        at: two.at,
-        lets: one.lets + two.lets,
-    }
+    let scope = one.scope;
+    let two = use_expr(sites, n, scope, result, room, one.at);
+    let scope = two.scope;
+    let at = two.at;
+    let lets = one.lets + two.lets;
+    Used { scope, at, lets }
 }
 
 // Internal: the let list of a step that makes a test. The count stands in front, and is filled in when the lets are written.

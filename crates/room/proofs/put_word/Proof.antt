@@ -1,3 +1,4 @@
+-- `room::put_word` meets its contract: behind the room's end nothing is stored.
 use mathlib.Core.Path.{sym}
 use native.Mathlib.Omega.{arith}
 use lib.Seq.{set-out}

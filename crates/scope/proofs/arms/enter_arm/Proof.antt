@@ -1,3 +1,4 @@
+-- `scope::arms::enter_arm` meets its contract: the source Matched, then the two passes.
 use mathlib.Core.Path.{_∙_, ap}
 use Rattle.definition.specs.Scope.{worked-out, arm-states}
 use borrow.Author.Needs.{needs}

@@ -1,3 +1,4 @@
+-- The loop's invariant: the first site that stands at the position is the first one from x on.
 use mathlib.Core.Path.{sym, _∙_}
 use mathlib.Core.Logic.{⊎-elim}
 use Prim.Native.Nat.{_-_, _≤_}

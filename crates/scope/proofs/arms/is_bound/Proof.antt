@@ -1,3 +1,4 @@
+-- `scope::arms::is_bound` meets its contract: each test that fails makes `binds` false, and the last decides it.
 use mathlib.Core.Path.{sym, _∙_, ap}
 use native.Mathlib.Omega.{arith}
 use borrow.Author.Tests.{not-true, not-false}

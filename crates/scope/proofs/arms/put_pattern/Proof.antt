@@ -1,3 +1,4 @@
+-- `scope::arms::put_pattern` meets its contract: three words, then the places.
 use native.Mathlib.Omega.{arith}
 use Rattle.definition.specs.Tree.{pattern-words}
 use Rattle.room.proofs.Written.{wrote-one, wrote-then}

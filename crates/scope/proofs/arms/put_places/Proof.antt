@@ -1,3 +1,4 @@
+-- The loop's invariant: the words of the places below k are written.
 use mathlib.Core.Path.{_≡_, refl, _∙_, ap}
 use Prim.Native.Nat.{_+_, _-_, _≤_}
 use native.Mathlib.Omega.{arith}

@@ -1,3 +1,4 @@
+-- `scope::classes::in_one_class` meets its contract: the store tells of two different ids whether they are linked.
 use Rattle.scope.proofs.Standing.{told-linked, told-is, told-not}
 use borrow.Author.Needs.{needs}
 use Rattle.scope.proofs.classes.in_one_class.Statement.{statement}

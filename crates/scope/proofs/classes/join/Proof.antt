@@ -1,3 +1,4 @@
+-- `scope::classes::join` meets its contract: a merge is one pair more.
 use Rattle.scope.proofs.Standing.{joins}
 use borrow.Author.Needs.{needs}
 use Rattle.scope.proofs.classes.join.Statement.{statement}

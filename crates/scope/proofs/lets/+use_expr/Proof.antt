@@ -1,3 +1,4 @@
+-- `scope::lets::use_expr` meets its contract. The measure is the site's id; the loop's invariant: the sources below k are used, and no more was listed than was marked.
 use mathlib.Core.Path.{_≡_, refl, sym, _∙_, ap}
 use Prim.Native.Nat.{ℕ, _+_, _-_, _<_, _≤_}
 use native.Mathlib.Omega.{arith}
@@ -36,10 +37,10 @@ abbrev use-expr-claims : ℕ → use-expr-lts.Claims
 use-expr-claims t = (source-count-reads.Asked, source-count-reads.Learnt, source-reads.Asked, source-reads.Learnt, use-expr-below t, use-expr.Post, never-listed-reads.Asked, never-listed-reads.Learnt, put-word-reads.Asked, put-word-reads.Learnt)
 
 abbrev use-expr-Inv-loop : use-expr-lts.InvT-loop
-use-expr-Inv-loop sites n x room₀ at next₀ count pos₀ lets₀ k₀ room next pos lets k = (k ≤ count) × ((length room ≡ length room₀) × ((lets + low (next .states) ≤ most) × ((pos ≤ length room + 1) × ((b : Book) → Drawn n sites b → (f : ℕ) → x ≤ f → Turning (use-below f b) (site-at sites x .sources) k next₀ room₀ at next pos lets room))))
+use-expr-Inv-loop sites n x room₀ at scope₀ count at₀ lets₀ k₀ room scope at' lets k = (k ≤ count) × ((length room ≡ length room₀) × ((lets + low (scope .states) ≤ most) × ((at' ≤ length room + 1) × ((b : Book) → Drawn n sites b → (f : ℕ) → x ≤ f → Turning (use-below f b) (site-at sites x .sources) k scope₀ room₀ at scope at' lets room))))
 
 abbrev use-expr-μ-loop : use-expr-lts.MeasureT-loop
-use-expr-μ-loop sites n x room₀ at next₀ count pos₀ lets₀ k₀ room next pos lets k = count - k
+use-expr-μ-loop sites n x room₀ at scope₀ count at₀ lets₀ k₀ room scope at' lets k = count - k
 
 -- the scope that came has 252 states
 abbrev AtStart : ℕ → Type 0
@@ -64,8 +65,8 @@ use-expr-element-copy-out-if1 t c = omega (arith, c .before .before .pre .1 .0 .
 use-expr-returns : (t : ℕ) → use-expr-lts.Need-returns (use-expr-claims t) (use-expr-at t) use-expr.Post use-expr-Inv-loop use-expr-μ-loop
 use-expr-returns t c = λ b d f h. use-again d _ (c .before .before .before .before .pre .1 .1 .0) f _ _ _ (c .before .before .before .before .pre .1 .1 .1) (omega (arith, c .if1 .taken))
 
-use-expr-element-write-next : (t : ℕ) → use-expr-lts.Need-element-write-next (use-expr-claims t) (use-expr-at t) use-expr.Post use-expr-Inv-loop use-expr-μ-loop
-use-expr-element-write-next t c = omega (arith, c .before .before .before .before .pre .1 .0 .few, (c .before .before .before .before .pre .1 .1 .0))
+use-expr-element-write-scope : (t : ℕ) → use-expr-lts.Need-element-write-scope (use-expr-claims t) (use-expr-at t) use-expr.Post use-expr-Inv-loop use-expr-μ-loop
+use-expr-element-write-scope t c = omega (arith, c .before .before .before .before .pre .1 .0 .few, (c .before .before .before .before .pre .1 .1 .0))
 
 use-expr-source-count-requires : (t : ℕ) → use-expr-lts.Need-source-count-requires (use-expr-claims t) (use-expr-at t) use-expr.Post use-expr-Inv-loop use-expr-μ-loop
 use-expr-source-count-requires t c κs = c .before .before .before .before .pre .1 .0 .sited _ (c .before .before .before .before .pre .1 .1 .0)
@@ -106,8 +107,8 @@ use-expr-cast-put-word t c = omega (arith, c .before .before .before .before .be
 use-expr-put-word-requires : (t : ℕ) → use-expr-lts.Need-put-word-requires (use-expr-claims t) (use-expr-at t) use-expr.Post use-expr-Inv-loop use-expr-μ-loop
 use-expr-put-word-requires t c κs = c .before .before .before .before .loop .inv .1 .1 .1 .0
 
-use-expr-add-t32 : (t : ℕ) → use-expr-lts.Need-add-t32 (use-expr-claims t) (use-expr-at t) use-expr.Post use-expr-Inv-loop use-expr-μ-loop
-use-expr-add-t32 t c = omega (arith, c .before .before .before .before .before .before .before .loop .inv .1 .1 .0)
+use-expr-add-lets-2 : (t : ℕ) → use-expr-lts.Need-add-lets-2 (use-expr-claims t) (use-expr-at t) use-expr.Post use-expr-Inv-loop use-expr-μ-loop
+use-expr-add-lets-2 t c = omega (arith, c .before .before .before .before .before .before .before .loop .inv .1 .1 .0)
 
 use-expr-same-length-2 : (t : ℕ) → use-expr-lts.Need-same-length-2 (use-expr-claims t) (use-expr-at t) use-expr.Post use-expr-Inv-loop use-expr-μ-loop
 use-expr-same-length-2 t c = ap length (c .before .before .put-word .ensures .room) ∙ simp length-set (c .before .before .before .before .before .before .before .loop .inv .1 .0)
@@ -123,7 +124,7 @@ pub +use-expr-spec : {M : Type 1} → statement M
     use-expr-μ-loop
     (use-expr-element-copy-out-if1 t)
     (use-expr-returns t)
-    (use-expr-element-write-next t)
+    (use-expr-element-write-scope t)
     (use-expr-source-count-requires t)
     (use-expr-loop-holds t)
     (use-expr-source-requires t)
@@ -137,6 +138,6 @@ pub +use-expr-spec : {M : Type 1} → statement M
     (use-expr-returns-2 t)
     (use-expr-cast-put-word t)
     (use-expr-put-word-requires t)
-    (use-expr-add-t32 t)
+    (use-expr-add-lets-2 t)
     (use-expr-same-length-2 t)
     (use-expr-returns-3 t)

@@ -1,3 +1,4 @@
+-- `scope::lets::rule_lets` meets its contract: the count's place is left, then filled in.
 use Rattle.room.proofs.Written.{wrote-one, wrote-fits}
 use Rattle.scope.proofs.Uses.{lets-listed}
 use borrow.Author.Needs.{needs}

@@ -1,3 +1,4 @@
+-- `scope::lets::test_lets` meets its contract: the count's place is left, then filled in.
 use Rattle.scope.proofs.Uses.{lets-listed}
 use borrow.Author.Needs.{needs}
 use Rattle.scope.proofs.lets.test_lets.Statement.{statement}

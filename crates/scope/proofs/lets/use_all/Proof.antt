@@ -1,3 +1,4 @@
+-- The loop's invariant: the sites below k are used, and no more was listed than was marked.
 use mathlib.Core.Path.{_≡_, refl, _∙_}
 use Prim.Native.Nat.{suc, _+_, _-_, _≤_}
 use native.Mathlib.Omega.{arith}
@@ -13,10 +14,10 @@ use Rattle.scope.proofs.lets.use_all.Statement.{statement}
 use Rattle.scope.proofs.lets.use_all.Tie as tie
 
 abbrev Inv-loop : tie.InvT-loop
-Inv-loop sites n ids room₀ at next₀ pos₀ lets₀ k₀ room next pos lets k = (k ≤ length ids) × ((length room ≡ length room₀) × ((lets + low (next .states) ≤ most) × ((pos ≤ length room + 1) × ((b : Book) → Drawn n sites b → Turning (use-site b) ids k next₀ room₀ pos₀ next pos lets room))))
+Inv-loop sites n ids room₀ at scope₀ at₀ lets₀ k₀ room scope at' lets k = (k ≤ length ids) × ((length room ≡ length room₀) × ((lets + low (scope .states) ≤ most) × ((at' ≤ length room + 1) × ((b : Book) → Drawn n sites b → Turning (use-site b) ids k scope₀ room₀ at scope at' lets room))))
 
 abbrev μ-loop : tie.MeasureT-loop
-μ-loop sites n ids room₀ at next₀ pos₀ lets₀ k₀ room next pos lets k = length ids - k
+μ-loop sites n ids room₀ at scope₀ at₀ lets₀ k₀ room scope at' lets k = length ids - k
 
 loop-holds : tie.Need-loop-holds Inv-loop μ-loop
 loop-holds c = let long : length (c .before .before .before .args .scope .states) ≡ most = search needs in (omega arith, (refl, (omega (arith, low-few (c .before .before .before .args .scope) long), (c .before .before .before .pre .1 .1, λ b d. turning-starts _ _ _ _ _ (c .before .before .before .pre .1 .1)))))

@@ -1,11 +1,12 @@
-use Rattle.scope.proofs.Uses.{placed-fits, placed-few, placed-site, placed-then, placed-uses, low-few}
-use Rattle.scope.specs.Drawn.{Ids}
+-- `scope::lets::use_rule` meets its contract: the impure sites are a part of the rule's record, and the result is used after them.
 use mathlib.Core.Path.{_≡_, sym, _∙_, subst}
 use Prim.Native.Nat.{suc}
 use native.Mathlib.Omega.{arith}
 use lib.ListN.{length}
 use Rattle.definition.specs.Book.{most}
 use Rattle.scope.proofs.Drawings.{sites-only, sites-drawn, impure-part}
+use Rattle.scope.proofs.Uses.{placed-fits, placed-few, placed-site, placed-then, placed-uses, low-few}
+use Rattle.scope.specs.Drawn.{Ids}
 use borrow.Author.Needs.{needs}
 use Rattle.scope.proofs.lets.use_rule.Statement.{statement}
 use Rattle.scope.proofs.lets.use_rule.Tie as tie
@@ -50,8 +51,8 @@ wide-requires c κs = search needs
 use-expr-requires : tie.Need-use-expr-requires
 use-expr-requires c κs = (c .before .before .before .before .before .before .before .before .before .before .before .before .before .pre .0, (omega (arith, c .before .before .wide .ensures, c .before .before .before .result .ensures, c .before .before .before .before .before .before .before .before .before .before .before .before .before .pre .1 .0 .result), placed-fits (c .before .before .before .before .before .before .use-all .ensures (sites-only _ _) (sites-drawn _ _))))
 
-add-t23 : tie.Need-add-t23
-add-t23 c = omega (arith, placed-few (c .before .before .before .before .before .before .before .before .before .before .before .before .use-all .ensures (sites-only _ _) (sites-drawn _ _)), placed-few (c .before .before .before .before .before .use-expr .ensures (sites-only _ _) (sites-drawn _ _) (suc (c .before .before .before .before .before .before .before .before .wide .result)) (omega arith)), low-few (c .before .before .before .before .before .before .before .before .before .before .before .before .before .before .before .before .before .before .before .args .scope) (long (c .before .before .before .before .before .before .before .before .before .before .before .before .before .before .before .before .before .before .before)))
+add-lets : tie.Need-add-lets
+add-lets c = omega (arith, placed-few (c .before .before .before .before .before .before .before .before .before .before .before .before .use-all .ensures (sites-only _ _) (sites-drawn _ _)), placed-few (c .before .before .before .before .before .use-expr .ensures (sites-only _ _) (sites-drawn _ _) (suc (c .before .before .before .before .before .before .before .before .wide .result)) (omega arith)), low-few (c .before .before .before .before .before .before .before .before .before .before .before .before .before .before .before .before .before .before .before .args .scope) (long (c .before .before .before .before .before .before .before .before .before .before .before .before .before .before .before .before .before .before .before)))
 
 same-length : tie.Need-same-length
 same-length c = search needs
@@ -75,6 +76,6 @@ use-rule-spec =
     result-requires
     wide-requires
     use-expr-requires
-    add-t23
+    add-lets
     same-length
     returns)

@@ -1,3 +1,4 @@
+-- `scope::lets::use_test` meets its contract: one use, or one after another.
 use mathlib.Core.Path.{_≡_}
 use Prim.Native.Nat.{suc}
 use native.Mathlib.Omega.{arith}
@@ -25,8 +26,8 @@ returns c = λ k d. rw (one-tested _ _ (c .if1 .taken)) (placed-site k _ (c .bef
 use-expr-requires-2 : tie.Need-use-expr-requires-2
 use-expr-requires-2 c κs = (c .before .before .before .before .before .before .before .before .before .pre .0, (c .before .before .before .before .before .before .before .before .before .pre .1 .1 .0, placed-fits (c .before .before .before .before .before .use-expr .ensures (sites-only _ _) (sites-drawn _ _) (suc (c .before .before .before .before .before .before .before .before .before .args .a)) (omega arith))))
 
-add-t17 : tie.Need-add-t17
-add-t17 c = omega (arith, placed-few (c .before .before .before .before .before .before .before .before .before .before .before .use-expr .ensures (sites-only _ _) (sites-drawn _ _) (suc (c .before .before .before .before .before .before .before .before .before .before .before .before .before .before .before .args .a)) (omega arith)), placed-few (c .before .before .before .before .before .use-expr2 .ensures (sites-only _ _) (sites-drawn _ _) (suc (c .before .before .before .before .before .before .before .before .before .before .before .before .before .before .before .args .b)) (omega arith)), low-few (c .before .before .before .before .before .before .before .before .before .before .before .before .before .before .before .args .scope) (long (c .before .before .before .before .before .before .before .before .before .before .before .before .before .before .before)))
+add-lets : tie.Need-add-lets
+add-lets c = omega (arith, placed-few (c .before .before .before .before .before .before .before .before .before .before .before .use-expr .ensures (sites-only _ _) (sites-drawn _ _) (suc (c .before .before .before .before .before .before .before .before .before .before .before .before .before .before .before .args .a)) (omega arith)), placed-few (c .before .before .before .before .before .use-expr2 .ensures (sites-only _ _) (sites-drawn _ _) (suc (c .before .before .before .before .before .before .before .before .before .before .before .before .before .before .before .args .b)) (omega arith)), low-few (c .before .before .before .before .before .before .before .before .before .before .before .before .before .before .before .args .scope) (long (c .before .before .before .before .before .before .before .before .before .before .before .before .before .before .before)))
 
 same-length-2 : tie.Need-same-length-2
 same-length-2 c = search needs
@@ -42,6 +43,6 @@ use-test-spec =
     same-length
     returns
     use-expr-requires-2
-    add-t17
+    add-lets
     same-length-2
     returns-2)

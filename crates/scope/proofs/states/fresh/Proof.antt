@@ -1,3 +1,4 @@
+-- `scope::states::fresh` meets its contract: 252 states and two arrays of 252 zeros, as they are made.
 use mathlib.Core.Path.{refl}
 use Rattle.definition.specs.Scope.{nowhere}
 use Rattle.scope.proofs.states.fresh.Statement.{statement}

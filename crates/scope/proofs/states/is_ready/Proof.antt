@@ -1,3 +1,4 @@
+-- The loop's invariant: whether all sources from k on are there is whether all are.
 use mathlib.Core.Path.{_≡_, refl, sym, _∙_}
 use Prim.Native.Nat.{_-_, _≤_}
 use native.Mathlib.Omega.{arith}

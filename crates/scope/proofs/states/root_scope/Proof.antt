@@ -1,3 +1,4 @@
+-- `scope::states::root_scope` meets its contract: availability worked out from the fresh scope.
 use mathlib.Core.Path.{_∙_, ap}
 use Rattle.definition.specs.Scope.{worked-out}
 use borrow.Author.Needs.{needs}
