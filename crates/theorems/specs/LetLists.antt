@@ -18,7 +18,7 @@ abbrev pub low : List ℕ → ℕ
 low [] = 0
 low (x ∷ xs) = if ltb x 2 then suc (low xs) else low xs
 
-low-length : (st : List ℕ) → low st ≤ length st
+pub low-length : (st : List ℕ) → low st ≤ length st
 low-length [] = omega arith
 low-length (x ∷ xs) = go (ltb x 2) (low-length xs)
   where
@@ -27,7 +27,7 @@ low-length (x ∷ xs) = go (ltb x 2) (low-length xs)
     go false h = omega arith
 
 -- marking one of them
-low-set : (st : List ℕ) (s : ℕ) → s < length st → state st s < 2 → suc (low (set st s 2)) ≡ low st
+pub low-set : (st : List ℕ) (s : ℕ) → s < length st → state st s < 2 → suc (low (set st s 2)) ≡ low st
 low-set [] s h l = absurd (omega arith)
 low-set (x ∷ xs) zero h l = rw (lt-ltb x 2 l) refl
 low-set (x ∷ xs) (suc s) h l = go (ltb x 2) (low-set xs s (omega arith) l)

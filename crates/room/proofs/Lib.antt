@@ -1,0 +1,2 @@
+-- Laws of what a writer leaves in a room.
+pub mod Written

@@ -1,0 +1,2 @@
+-- What the contracts of `room` cite.
+pub mod Wrote

@@ -1,0 +1,56 @@
+-- The loop's invariant: the sites below x are passed as the definition's pass does it.
+use mathlib.Core.Path.{sym, _∙_}
+use mathlib.Core.Logic.{⊎-elim}
+use Prim.Native.Nat.{_-_, _≤_}
+use native.Mathlib.Omega.{arith}
+use borrow.Author.Needs.{needs}
+use Rattle.definition.specs.Book.{Book}
+use Rattle.definition.specs.Scope.{emitted, bound-by, emit-bound}
+use Rattle.tables.specs.Held.{shown}
+use Rattle.scope.specs.Drawn.{Drawn}
+use Rattle.scope.proofs.Sweeps.{Swept, sweep-starts, sweep-hit, sweep-skip, sweep-ends}
+use Rattle.scope.proofs.Binds.{bound-is}
+use Rattle.scope.proofs.arms.emit_bound.Statement.{statement}
+use Rattle.scope.proofs.arms.emit_bound.Tie as tie
+
+abbrev Inv-loop : tie.InvT-loop
+Inv-loop sites n s p next₀ x₀ next x = (x ≤ n) × ((b : Book) → Drawn n sites b → Swept (bound-by b s (shown p)) emitted x next₀ next)
+
+abbrev μ-loop : tie.MeasureT-loop
+μ-loop sites n s p next₀ x₀ next x = n - x
+
+loop-holds : tie.Need-loop-holds Inv-loop μ-loop
+loop-holds c = (omega arith, λ b d. sweep-starts _ _ _)
+
+is-bound-requires : tie.Need-is-bound-requires Inv-loop μ-loop
+is-bound-requires c κs = (c .before .before .before .pre, c .loop-test .taken)
+
+element-write-next : tie.Need-element-write-next Inv-loop μ-loop
+element-write-next c = omega (arith, c .before .before .before .before .before .pre .few, c .before .before .loop-test .taken)
+
+add-x : tie.Need-add-x Inv-loop μ-loop
+add-x c = search needs
+
+loop-less : tie.Need-loop-less Inv-loop μ-loop
+loop-less c = search needs
+
+loop-again : tie.Need-loop-again Inv-loop μ-loop
+loop-again c = (omega (arith, c .before .before .loop-test .taken), λ b d. ⊎-elim (λ w. rw (w .1) (sweep-hit (c .before .before .before .loop .inv .1 b d) (bound-is b _ _ _ _ (d .at _ (c .before .before .loop-test .taken)) (sym (c .before .is-bound .ensures) ∙ w .0 .taken)))) (λ w. rw (w .1) (sweep-skip (c .before .before .before .loop .inv .1 b d) (bound-is b _ _ _ _ (d .at _ (c .before .before .loop-test .taken)) (sym (c .before .is-bound .ensures) ∙ w .0 .left)))) (c .if1 .came))
+
+returns : tie.Need-returns Inv-loop μ-loop
+unfolding emit-bound
+returns c = λ b d. rw (d .size) (sweep-ends (c .before .loop .inv .1 b d) (c .before .loop .inv .0) (c .loop-test .left))
+
+pub emit-bound-spec : {M : Type 1} → statement M
+emit-bound-spec =
+    tie.close
+    (tie.spec
+    Inv-loop
+    μ-loop
+    loop-holds
+    is-bound-requires
+    element-write-next
+    add-x
+    loop-less
+    loop-again
+    returns)

@@ -1,0 +1,23 @@
+-- `scope::arms::enter_arm` meets its contract: the source Matched, then the two passes.
+use mathlib.Core.Path.{_∙_, ap}
+use Rattle.definition.specs.Scope.{worked-out, arm-states}
+use borrow.Author.Needs.{needs}
+use Rattle.scope.proofs.arms.enter_arm.Statement.{statement}
+use Rattle.scope.proofs.arms.enter_arm.Tie as tie
+
+element-write-next : tie.Need-element-write-next
+element-write-next c = search needs
+
+emit-bound-requires : tie.Need-emit-bound-requires
+emit-bound-requires c κs = search needs
+
+add-bindings-requires : tie.Need-add-bindings-requires
+add-bindings-requires c κs = search needs
+
+returns : tie.Need-returns
+unfolding arm-states
+returns c = λ b d. let w = c .add-bindings .ensures b d in let e = c .before .emit-bound .ensures b d in record { states = w .states ∙ ap (worked-out b) (e .states); root = w .root ∙ e .root; rank = w .rank ∙ e .rank }
+
+pub enter-arm-spec : {M : Type 1} → statement M
+enter-arm-spec =
+    tie.close (tie.spec element-write-next emit-bound-requires add-bindings-requires returns)

@@ -1,0 +1,40 @@
+-- The classes joined on the path, as the scope's store of sets has them; and which scope of the code is which of the definition.
+use mathlib.Core.Path.{_≡_}
+use mathlib.Core.Bool.{Bool, _&&_, not}
+use mathlib.Core.List.{List, _∷_}
+use Prim.Native.Nat.{ℕ}
+use lib.ListN.{getD}
+use Rattle.definition.specs.Lists.{_is_}
+use Rattle.definition.specs.Book.{Pair, linked}
+use Rattle.definition.specs.Sets.{Class, unmerged, in-set}
+use Rattle.definition.specs.Scope as plan
+use Rattle.sets.specs.declared.Store.{Store}
+use Rattle.sets.specs.View.{read, Made}
+use Rattle.scope.specs.declared.Scope.{Scope}
+
+-- an id's label: the representative of its set, or itself where it is in none
+abbrev pub label-in : Class → ℕ → ℕ
+label-in unmerged z = z
+label-in (in-set r k) z = r
+
+-- a store of these roots and ranks has the classes of the pairs
+pub record Joined (ps : List Pair) (root rank : List ℕ) : Type 0 where
+  pub made : Made (record { root = root; rank = rank })
+  pub agree : (u v : ℕ) → label-in (read root rank u) u is label-in (read root rank v) v ≡ linked ps u v
+
+-- by the roots alone: two ids have the same root
+abbrev pub same-root : List ℕ → ℕ → ℕ → Bool
+same-root root x y = not (getD root x 0 is 0) && getD root x 0 is getD root y 0
+
+abbrev pub store-of : Scope → Store
+store-of s = record { root = s .root; rank = s .rank }
+
+-- r is s with one pair more
+pub record Joins (x y : ℕ) (s r : Scope) : Type 0 where
+  pub states : r .states ≡ s .states
+  pub classes : (ps : List Pair) → Joined ps (s .root) (s .rank) → Joined (record { a = x; b = y } ∷ ps) (r .root) (r .rank)
+
+-- the scope s is the definition's scope σ
+pub record Stands (σ : plan.Scope) (s : Scope) : Type 0 where
+  pub states : s .states ≡ σ .states
+  pub classes : Joined (σ .joined) (s .root) (s .rank)

@@ -1,0 +1,6 @@
+-- What the contracts of `scope` cite.
+pub mod Drawn
+pub mod States
+pub mod Uses
+pub mod Places
+pub mod Classes

@@ -1,0 +1,18 @@
+-- What a scope holds after its states have changed.
+use mathlib.Core.Path.{_≡_}
+use mathlib.Core.List.{List}
+use Prim.Native.Nat.{ℕ}
+use Rattle.definition.specs.Scope.{nowhere}
+use Rattle.scope.specs.declared.Scope.{Scope}
+
+-- r has the states st, and the classes of s
+pub record With (st : List ℕ) (s r : Scope) : Type 0 where
+  pub states : r .states ≡ st
+  pub root : r .root ≡ s .root
+  pub rank : r .rank ≡ s .rank
+
+-- r has the states st, and no classes
+pub record Fresh (st : List ℕ) (r : Scope) : Type 0 where
+  pub states : r .states ≡ st
+  pub root : r .root ≡ nowhere
+  pub rank : r .rank ≡ nowhere
