@@ -8,9 +8,8 @@ use lib.Dec.{eqb, leb}
 use lib.ListN.{length, getD}
 use borrow.Author.Tests.{eq-eqb, ne-eqb, lt-ltb, le-ltb}
 use Rattle.definition.specs.Book.{most, slots, Rule, linked}
-use Rattle.definition.specs.Choice.{Test, has, testable, best, on, same}
+use Rattle.definition.specs.Choice.{Test, has, testable, on, same}
 use Rattle.definition.specs.Lists.{if_then_else_, filter}
-use Rattle.definition.specs.Scope.{root}
 use Rattle.definition.specs.Tables.{rule-at}
 use Rattle.laws.specs.Greatest.{greatest}
 use Rattle.tables.specs.Held.{rank-of, test-of, Named}

@@ -8,7 +8,6 @@ use Prim.Native.Nat.{ℕ, zero, suc, _+_, _-_, _*_, _/_, _%_, _≤_, _<_, compar
 use native.Mathlib.Decide.{decLt}
 use native.Mathlib.Omega.{arith}
 use lib.Dec.{ltb}
-use lib.IntN.{pos}
 use lib.ListN.{length}
 use borrow.Author.Tests.{ne-eqb, ltb-true, ltb-false, lt-ltb, le-ltb}
 use Rattle.definition.specs.Book.{most, Book}
@@ -22,7 +21,6 @@ use Rattle.laws.specs.Orders.{lt-is, eq-is}
 use Rattle.laws.specs.Tests.{split}
 use Rattle.laws.specs.Winners.{gt-is, champion-is}
 use Rattle.theorems.specs.Choices.{Known, tests-known, candidate-parts, is-listed}
-use Rattle.theorems.specs.LetLists.{low}
 use Rattle.theorems.specs.States.{at}
 use Rattle.choice.specs.Worth.{last-code, code-room, code, key-of, worth, of-code, decoded, shown-best}
 

@@ -3,3 +3,4 @@ pub mod Answers
 pub mod Tops
 pub mod Keys
 pub mod Whole
+pub mod Callers

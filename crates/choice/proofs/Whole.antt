@@ -12,7 +12,7 @@ use borrow.Author.Tests.{ltb-true}
 use Rattle.definition.specs.Book.{most, slots, Pair, Book, rule, linked}
 use Rattle.definition.specs.Choice.{Test, tests, testable, is-open, count, state-of, choice, on, same}
 use Rattle.definition.specs.Lists.{if_then_else_, upto, filter}
-use Rattle.definition.specs.Scope.{matched, Scope, root}
+use Rattle.definition.specs.Scope.{matched, Scope}
 use Rattle.definition.specs.Tables.{rule-word, rule-at, book-of}
 use Rattle.laws.specs.Ascending.{asc, mem-index, asc-filter, Within, Distinct, filter-distinct, asc-length}
 use Rattle.laws.specs.Greatest.{greatest, greatest-over, greatest-under}

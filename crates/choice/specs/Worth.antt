@@ -9,7 +9,7 @@ use lib.ListN.{length, getD}
 use Rattle.definition.specs.Book.{most, slots, Pair, Rule, linked}
 use Rattle.definition.specs.Choice.{Test, testable, choice, on, same}
 use Rattle.definition.specs.Lists.{_is_, _below_, if_then_else_, upto, filter}
-use Rattle.definition.specs.Scope.{matched, state, root}
+use Rattle.definition.specs.Scope.{matched, state}
 use Rattle.definition.specs.Tables.{rule-word, rule-at, book-of}
 use Rattle.laws.specs.Ascending.{asc, Within, Distinct}
 use Rattle.laws.specs.Greatest.{greatest}

@@ -2,7 +2,7 @@
 use order::wide;
 ghost use mathlib.Core.Path.{_≡_};
 ghost use mathlib.Core.Bool.{_&&_};
-ghost use Prim.Native.Nat.{_+_, _<_, _≤_, max, min};
+ghost use Prim.Native.Nat.{_+_, _<_, _≤_, max};
 ghost use lib.Dec.{leb};
 ghost use Rattle.definition.specs.Lists.{if_then_else_};
 ghost use Rattle.definition.specs.Book.{most, slots};
@@ -95,12 +95,6 @@ fn is_open(states: &[u8; 252], root: &[u8; 252], a: usize, b: usize) -> bool
     !same_class(root, a, b)
 }
 
-fn lesser(x: u8, y: u8) -> usize
-    ensures { λ r. ⌜ (r ≡ min x y) × (r < 256) ⌝ }
-{
-    if x < y { wide(x) } else { wide(y) }
-}
-
 // A pair has the lesser state.
 fn state_of(states: &[u8; 252], a: usize, b: usize) -> usize
     requires { ⌜ (a < most) × (b < most) ⌝ }
@@ -109,7 +103,12 @@ fn state_of(states: &[u8; 252], a: usize, b: usize) -> usize
     if b == 0 {
         return wide(states[a]);
     }
-    lesser(states[a], states[b])
+    let first = states[a];
+    let second = states[b];
+    if first < second {
+        return wide(first);
+    }
+    wide(second)
 }
 
 // Tests in the order of the last tie: Match before Equal, then smaller ids.

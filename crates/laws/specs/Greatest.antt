@@ -5,8 +5,6 @@ use mathlib.Core.List.{List, [], _∷_, map, List·Memᴰ, List·Memᴰ·head, L
 use Prim.Native.Nat.{ℕ, _+_, _-_, _≤_, _<_, max}
 use native.Mathlib.Decide.{decLt}
 use native.Mathlib.Omega.{arith}
-use Rattle.definition.specs.Book.{most}
-use Rattle.definition.specs.Choice.{best}
 use Rattle.definition.specs.Lists.{from, upto}
 use Rattle.laws.specs.Runs.{Runs, in-slots}
 

@@ -5,7 +5,6 @@ use mathlib.Core.Bool.{Bool, true, false}
 use mathlib.Core.List.{List, [], _∷_, List·Memᴰ, List·Memᴰ·head, List·Memᴰ·tail, List·Memᴰ·not-nil, List·Memᴰ·cases-cons}
 use Prim.Native.Nat.{ℕ, _<_, compare, Ordering, Ordering·lt, Ordering·eq, Ordering·gt}
 use native.Mathlib.Omega.{arith}
-use Rattle.definition.specs.Choice.{better}
 use Rattle.definition.specs.Lists.{if_then_else_, champion}
 use Rattle.laws.specs.Orders.{lt-is, lt-of, eq-of, eq-is, gt-of}
 use Rattle.laws.specs.Tests.{split}

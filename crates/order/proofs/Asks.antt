@@ -11,7 +11,7 @@ use borrow.Author.Tests.{eq-eqb, ne-eqb, leb-true, leb-false, le-leb, lt-leb}
 use Rattle.definition.specs.Book.{slots, pattern-on}
 use Rattle.definition.specs.Choice.{has}
 use Rattle.definition.specs.Lists.{all, each}
-use Rattle.definition.specs.Plan.{rank, same-pattern}
+use Rattle.definition.specs.Plan.{same-pattern}
 use Rattle.definition.specs.Tables.{rule-at}
 use Rattle.laws.specs.Runs.{in-slice, each-more, each-end}
 use Rattle.laws.specs.Tests.{split}

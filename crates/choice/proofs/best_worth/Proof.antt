@@ -3,8 +3,6 @@ use mathlib.Core.Path.{ap, _∙_}
 use Prim.Native.Nat.{_-_, max}
 use lib.ListN.{length, drop}
 use borrow.Author.Needs.{needs}
-use Rattle.definition.specs.Book.{most}
-use Rattle.definition.specs.Scope.{root}
 use Rattle.laws.specs.Greatest.{Climbed, climb-starts, climb-turn, climb-ends}
 use Rattle.laws.specs.Runs.{in-slice}
 use Rattle.order.proofs.Asks.{held-at}

@@ -4,10 +4,8 @@ use mathlib.Core.List.{map}
 use Prim.Native.Nat.{_-_, max}
 use native.Mathlib.Omega.{arith}
 use borrow.Author.Needs.{needs}
-use Rattle.definition.specs.Book.{most}
-use Rattle.definition.specs.Choice.{best, on}
+use Rattle.definition.specs.Choice.{on}
 use Rattle.definition.specs.Lists.{from}
-use Rattle.definition.specs.Scope.{root}
 use Rattle.laws.specs.Greatest.{Climbed, climb-starts, climb-turn, climb-slots}
 use Rattle.laws.specs.Runs.{in-slots}
 use Rattle.tables.specs.Held.{site-slot}

@@ -4,10 +4,8 @@ use mathlib.Core.List.{map}
 use Prim.Native.Nat.{_-_, _*_, max}
 use native.Mathlib.Omega.{arith}
 use borrow.Author.Needs.{needs}
-use Rattle.definition.specs.Book.{most, slots}
-use Rattle.definition.specs.Choice.{best}
+use Rattle.definition.specs.Book.{slots}
 use Rattle.definition.specs.Lists.{from}
-use Rattle.definition.specs.Scope.{root}
 use Rattle.definition.specs.Tables.{rule-at}
 use Rattle.laws.specs.Greatest.{Climbed, climb-starts, climb-turn, climb-slots}
 use Rattle.laws.specs.Runs.{in-slots}

@@ -4,10 +4,7 @@ use mathlib.Core.List.{map}
 use Prim.Native.Nat.{_-_, _*_, max}
 use native.Mathlib.Omega.{arith}
 use borrow.Author.Needs.{needs}
-use Rattle.definition.specs.Book.{most}
-use Rattle.definition.specs.Choice.{best}
 use Rattle.definition.specs.Lists.{from}
-use Rattle.definition.specs.Scope.{root}
 use Rattle.laws.specs.Greatest.{Climbed, climb-starts, climb-turn, climb-slots}
 use Rattle.laws.specs.Runs.{in-slots}
 use Rattle.tables.specs.Held.{end-slot}

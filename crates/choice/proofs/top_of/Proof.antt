@@ -4,7 +4,6 @@ use Prim.Native.Nat.{_+_, _-_, max}
 use native.Mathlib.Omega.{arith}
 use lib.ListN.{length, drop}
 use borrow.Author.Needs.{needs}
-use Rattle.definition.specs.Book.{most}
 use Rattle.laws.specs.Greatest.{Climbed, climb-starts, climb-turn, climb-ends}
 use Rattle.laws.specs.Runs.{in-slice}
 use Rattle.tables.specs.Held.{rank-of}
