@@ -1,6 +1,6 @@
 """The smallest book that still fails: rules, their parts and sites are dropped while it does."""
 
-from judge.book import Book, refusal
+from judge.book import Book, refusal, sites_named
 
 from books.write import bytes_of
 
@@ -8,7 +8,8 @@ from books.write import bytes_of
 def smallest(book, still_fails):
     """Shrinks an accepted book; what is tried is accepted too."""
     def fails(candidate):
-        return refusal(bytes_of(candidate)) is None and still_fails(candidate)
+        accepted = candidate is not None and refusal(bytes_of(candidate)) is None
+        return accepted and still_fails(candidate)
 
     while True:
         smaller = next(filter(fails, smaller_books(book)), None)
@@ -30,6 +31,7 @@ def smaller_books(book):
             yield Book(book.sites, book.rules[:k] + (less,) + book.rules[k + 1:])
     for site in reversed(range(len(book.sites))):
         yield from without_site(book, site)
+        yield from (renamed(book, site, lower) for lower in range(site))
     yield from with_fewer_sources(book)
 
 
@@ -64,17 +66,29 @@ def without_site(book, gone):
 
     sites = tuple(site._replace(sources=tuple(map(moved, site.sources)))
                   for own, site in enumerate(book.sites) if own != gone)
-    rules = tuple(rule._replace(
+    yield Book(sites, tuple(with_ids(rule, moved) for rule in book.rules))
+
+
+def renamed(book, site, other):
+    """The book with a lower site in every rule that names this one, or none if no rule does."""
+    if not any(site in sites_named(rule) for rule in book.rules):
+        return None
+
+    def moved(named_site):
+        return other if named_site == site else named_site
+
+    return Book(book.sites, tuple(with_ids(rule, moved) for rule in book.rules))
+
+
+def with_ids(rule, moved):
+    return rule._replace(
         result=moved(rule.result), impures=tuple(map(moved, rule.impures)),
         pairs=tuple((moved(a), moved(b)) for a, b in rule.pairs),
-        constraints=tuple(c._replace(site=moved(c.site)) for c in rule.constraints),
-    ) for rule in book.rules)
-    yield Book(sites, rules)
+        constraints=tuple(c._replace(site=moved(c.site)) for c in rule.constraints))
 
 
 def named(book):
     found = {source for site in book.sites for source in site.sources}
     for rule in book.rules:
-        found |= {rule.result, *rule.impures, *(c.site for c in rule.constraints)}
-        found |= {site for pair in rule.pairs for site in pair}
+        found |= set(sites_named(rule))
     return found
