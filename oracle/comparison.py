@@ -80,6 +80,11 @@ class Comparison:
         yield from self.walk_differences(asked.style, book, words, rng)
         yield from self.program_differences(asked.data, ("words", len(words)), words)
 
+    def differs(self, asked):
+        """Whether anything disagrees, asked of a book on the side: nothing is counted."""
+        aside = Comparison(self.rust, self.planner_class, self.program)
+        return any(True for _ in aside.differences(asked, Random(asked.data)))
+
     def word_differences(self, data, words):
         """The judge's words against the Rust's, and against themselves read back."""
         try:

@@ -12,6 +12,8 @@ from .grow import Desk, some_number
 
 LIMITS = (-2**31, -2**31 + 1, -400, -1, 0, 1, 85, 2**31 - 2, 2**31 - 1)
 TENTHS = tuple(range(-400, 900, 65))
+# A site record may give any position; one that no field count exceeds is bound by no rule.
+POSITIONS = (0,) * 10 + (1,) * 6 + (2,) * 3 + (3,) * 3 + (4, 255)
 
 
 @dataclass(frozen=True)
@@ -117,7 +119,7 @@ def grow_bound_site(desk, style):
     nests = bound and rng.random() < style.nested
     source = rng.choice(bound) if nests else some_source(desk, style)
     pattern = rng.choice([kind for kind in style.patterns if kind in (IS_VARIANT, IS_SOME)] or [2])
-    position = 0 if pattern == IS_SOME else rng.choice((0, 0, 0, 1, 1, 2, 3))
+    position = 0 if pattern == IS_SOME else rng.choice(POSITIONS)
     number = some_number(pattern, rng.choice(style.numbers))
     return Site(BOUND_BY_PATTERN, (source,), pattern, position, number)
 
