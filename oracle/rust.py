@@ -8,6 +8,8 @@ HERE = Path(__file__).parent
 BUILDS = {
     "release": ([], "target/release/rust-planner"),
     "debug": (["--profile", "dev"], "target/debug/rust-planner"),
+    "short-lists": (["--release", "--features", "short-lists", "--target-dir", "target/short-lists"],
+                    "target/short-lists/release/rust-planner"),
 }
 
 
@@ -49,6 +51,10 @@ class Rust:
         told = self.ask(f"walk {kinds} {listed(reading.numbers)} {listed(reading.identities)}")
         name, *numbers = told.split()
         return (name, *map(int, numbers))
+
+    def nanoseconds(self, data, count):
+        """How long planning a book so many times takes, reading its tables included."""
+        return int(self.ask(f"time {count} {data.hex()}").split()[1])
 
     def sets(self, calls):
         """Answers of set calls on an empty store, and the store: (rank, representative, members)."""
