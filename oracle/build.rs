@@ -29,7 +29,12 @@ fn originals_folder() -> PathBuf {
     [folder.clone(), folder.join("src")]
         .into_iter()
         .find(|place| TAKEN.iter().all(|name| place.join(name).is_file()))
-        .unwrap_or_else(|| panic!("no serialize.rs and disjointsets.rs in {}", folder.display()))
+        .unwrap_or_else(|| {
+            panic!(
+                "no serialize.rs and disjointsets.rs in {}",
+                folder.display()
+            )
+        })
 }
 
 /// Copies one file and reads both back.

@@ -12,6 +12,7 @@ from judge.walk import Reading
 FRESH_WORD = 0xA5A5A5A5  # every room word before the call
 REFUSED_BIT = 0x80000000
 NONE = 65535  # rule and result where there is none
+WALKED = ("found", "nothing")
 VERSION = 1
 
 
@@ -55,8 +56,8 @@ def answer_word(answer):
 
 
 def walk_word(answer):
-    return {"found": 0, "nothing": 1}.get(answer[0]) if answer[0] != "refused" \
-        else REFUSED_BIT + answer[1]
+    """0 found, 1 nothing, or the refusal with the highest bit set."""
+    return REFUSED_BIT + answer[1] if answer[0] == "refused" else WALKED.index(answer[0])
 
 
 def sized(raw, count):

@@ -10,8 +10,8 @@ from books.styles import MAKERS
 from books.worked import A, B, WORKED, integer, variant
 from books.write import bytes_of, mended
 from judge.book import (
-    ARGUMENT, BOUND_BY_PATTERN, CONST_INT, CONST_PRIM, EXPRESSION, IS_INT, IS_PRIM, IS_SOME,
-    IS_VARIANT, MAKE_STRUCT, MAKE_VARIANT, MATCH_TUPLE, Book, Constraint, Rule, Site, refusal,
+    ARGUMENT, BOUND_BY_PATTERN, CONST_INT, CONST_PRIM, EXPRESSION, IS_PRIM, IS_SOME, IS_VARIANT,
+    MAKE_STRUCT, MAKE_VARIANT, MATCH_TUPLE, Book, Constraint, Rule, Site, refusal,
 )
 from judge.plan import Planner
 from judge.walk import Reading

@@ -3,9 +3,7 @@
 Each function yields (label, book): every rule is right by itself (5), and no lower number fits.
 """
 
-from judge.book import (
-    BOUND_BY_PATTERN, IS_INT, IS_VARIANT, Book, Constraint, binds, reached, sites_named,
-)
+from judge.book import BOUND_BY_PATTERN, IS_INT, IS_VARIANT, Book, Constraint, binds, reached
 
 from .grow import MOST_IN_A_RULE
 

@@ -20,8 +20,8 @@ POSITIONS = (0,) * 10 + (1,) * 6 + (2,) * 3 + (3,) * 3 + (4, 255)
 class Style:
     """Bags to draw from. `hot`: sites that tests are drawn from (0: all); `recent`: how far back
     sources lie (0: anywhere); `nested`: chance that a kind 7 site hangs on another; `kin`: chance
-    that a rule starts as a copy of an earlier one; `bare`: chance that a rule without any test
-    stands as it came, and so may leave all rules below it dead."""
+    that a rule starts as a copy of an earlier one; `bare`: chance that a book's rules without any
+    test stand as they came, and so may leave all rules below them dead."""
     sites: tuple = (3, 14)
     rules: tuple = (1, 14)
     kinds: tuple = (0, 0, 0, 1, 2, 3, 4, 5, 6, 6, 7, 7, 7)
@@ -35,7 +35,7 @@ class Style:
     recent: int = 0
     nested: float = 0.3
     kin: float = 0.3
-    bare: float = 0.1
+    bare: float = 0.2
 
 
 MIXED = Style()
@@ -71,6 +71,7 @@ FULL_STYLES = ("sparse", "dense", "pair-heavy", "nested-seven", "deep-sources", 
 
 def grow_book(style, rng):
     desk = Desk(rng)
+    style = replace(style, bare=float(rng.random() < style.bare))
     site_count = rng.randint(*style.sites)
     while len(desk.sites) < site_count:
         desk.add_site(grow_site(desk, style))

@@ -3,7 +3,7 @@
 Plain sets and brute force: every open test is tried against every rule of the block.
 """
 
-from itertools import combinations, takewhile
+from itertools import combinations
 from typing import NamedTuple
 
 from .book import ARGUMENT, BOUND_BY_PATTERN, CONST_INT, CONST_PRIM, MATCH_TUPLE
@@ -90,7 +90,8 @@ def tests_of(rule):
 
 
 class Planner:
-    """Makes the blocks of one book. W, the rules of a block, is a list with the highest first."""
+    """Makes the blocks of one book. W, the rules of a block, is a list in the order in which what is
+    left of it returns."""
 
     def __init__(self, book):
         self.sites = book.sites
@@ -104,8 +105,7 @@ class Planner:
     def tree(self):
         scope = Scope([UNAVAILABLE] * len(self.sites), [])
         self.work_out_availability(scope)
-        everything = sorted(range(len(self.rules)), key=lambda i: (-self.rules[i].priority, i))
-        return self.block(everything, scope)
+        return self.block(self.ranked(range(len(self.rules))), scope)
 
     # Sites and let lists
 
@@ -167,10 +167,9 @@ class Planner:
     def counted(self, test, rules):
         """W's rules that have the test and rank at least as high as each that lacks it."""
         having = self.having[test]
-        lacking = (self.rules[i].priority for i in rules if i not in having)
-        highest = next(lacking, LOWEST)  # the highest of W come first
-        high_enough = takewhile(lambda i: self.rules[i].priority >= highest, rules)
-        return {i for i in high_enough if i in having}
+        lacking = [self.rules[i].priority for i in rules if i not in having]
+        highest = max(lacking, default=LOWEST)
+        return {i for i in rules if i in having and self.rules[i].priority >= highest}
 
     def step(self, test, taken, scope):
         lets = []
@@ -196,6 +195,7 @@ class Planner:
         return (asked.kind, asked.number, asked.fields)
 
     def pattern_order(self, pattern):
+        """Arms come by kind, then signed number, then field count: as `pattern` has them."""
         return pattern
 
     def arm(self, source, pattern, group, scope):

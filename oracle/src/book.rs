@@ -10,7 +10,7 @@ const RULE_BYTES: usize = 72;
 
 /// The sites and rules of a book, or why it cannot be read at all.
 pub fn rule_set(book: &[u8]) -> Result<RuleSet, String> {
-    if book.is_empty() || book.len() % BLOCK_BYTES != 0 {
+    if book.is_empty() || !book.len().is_multiple_of(BLOCK_BYTES) {
         return Err("no whole blocks".into());
     }
     let mut rules = RuleSet::default();
@@ -45,7 +45,9 @@ fn binding(record: &[u8]) -> Result<Binding, String> {
         3 => Binding::MatchTuple { source },
         4 => Binding::MakeVariant { fields: sources() },
         5 => Binding::MakeStruct { fields: sources() },
-        6 => Binding::Constructor { parameters: sources() },
+        6 => Binding::Constructor {
+            parameters: sources(),
+        },
         7 if record[4] == 3 => Binding::MatchSome { source },
         7 => Binding::MatchVariant {
             source,
@@ -59,14 +61,18 @@ fn binding(record: &[u8]) -> Result<Binding, String> {
 fn rule(record: &[u8], index: u32) -> Result<Rule, String> {
     let mut rule = Rule::default();
     rule.prio = number(record, 0).into();
-    rule.pos = Pos { rule: index, pos: number(record, 4) as u32 };
+    rule.pos = Pos {
+        rule: index,
+        pos: number(record, 4) as u32,
+    };
     rule.result = site_id(half(record, 8));
     rule.impure = ids(record, 62, record[12]).into_vec();
     for at in (14..46).step_by(8).take(record[10].into()) {
         rule.set_constraint(site_id(half(record, at)), pattern(&record[at + 2..])?);
     }
     for at in (46..62).step_by(4).take(record[11].into()) {
-        rule.equals.merge(site_id(half(record, at)), site_id(half(record, at + 2)));
+        rule.equals
+            .merge(site_id(half(record, at)), site_id(half(record, at + 2)));
     }
     Ok(rule)
 }
@@ -76,14 +82,19 @@ fn pattern(bytes: &[u8]) -> Result<Constraint, String> {
     Ok(match bytes[0] {
         0 => Constraint::ConstInt { val },
         1 => Constraint::ConstPrim { val },
-        2 => Constraint::Variant { variant: val, fields: TupleIndex(bytes[1]) },
+        2 => Constraint::Variant {
+            variant: val,
+            fields: TupleIndex(bytes[1]),
+        },
         3 => Constraint::Some,
         kind => return Err(format!("no pattern kind {kind}")),
     })
 }
 
 fn ids(record: &[u8], start: usize, count: u8) -> Box<[BindingId]> {
-    (0..usize::from(count)).map(|k| site_id(half(record, start + 2 * k))).collect()
+    (0..usize::from(count))
+        .map(|k| site_id(half(record, start + 2 * k)))
+        .collect()
 }
 
 fn site_id(id: u16) -> BindingId {

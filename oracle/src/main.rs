@@ -38,7 +38,9 @@ fn main() {
             Ok(Err(why)) => format!("unreadable {why}"),
             Err(_) => format!("panicked {}", SAID.lock().unwrap().replace('\n', " ")),
         };
-        writeln!(out, "{told}").and_then(|()| out.flush()).expect("standard output is open");
+        writeln!(out, "{told}")
+            .and_then(|()| out.flush())
+            .expect("standard output is open");
     }
 }
 
@@ -48,7 +50,11 @@ fn answer(line: &str, last_tree: &mut serialize::Block) -> Result<String, String
         "plan" => {
             *last_tree = plan(&bytes(rest)?)?;
             let words = words::tree_words(last_tree);
-            let told = words.iter().map(u32::to_string).collect::<Vec<_>>().join(" ");
+            let told = words
+                .iter()
+                .map(u32::to_string)
+                .collect::<Vec<_>>()
+                .join(" ");
             Ok(format!("words {} {told}", words.len()))
         }
         "walk" => Ok(match walk::walk(last_tree, &reading(rest)?) {
@@ -79,16 +85,28 @@ fn time(rest: &str) -> Result<String, String> {
 fn reading(rest: &str) -> Result<walk::Reading, String> {
     let mut parts = rest.split(' ');
     let mut next = || parts.next().ok_or("a reading has three lists");
-    Ok(walk::Reading { kinds: bytes(next()?)?, numbers: list(next()?)?, identities: list(next()?)? })
+    Ok(walk::Reading {
+        kinds: bytes(next()?)?,
+        numbers: list(next()?)?,
+        identities: list(next()?)?,
+    })
 }
 
 fn list<T: std::str::FromStr>(text: &str) -> Result<Vec<T>, String> {
     let entries = text.split(',').filter(|_| text != "-");
-    entries.map(|entry| entry.parse().map_err(|_| format!("no number: {entry}"))).collect()
+    entries
+        .map(|entry| entry.parse().map_err(|_| format!("no number: {entry}")))
+        .collect()
 }
 
 fn bytes(hex: &str) -> Result<Vec<u8>, String> {
     let hex = if hex == "-" { "" } else { hex };
-    let pair = |at: usize| hex.get(at..at + 2).and_then(|two| u8::from_str_radix(two, 16).ok());
-    (0..hex.len()).step_by(2).map(|at| pair(at).ok_or("no hexadecimal".into())).collect()
+    let pair = |at: usize| {
+        hex.get(at..at + 2)
+            .and_then(|two| u8::from_str_radix(two, 16).ok())
+    };
+    (0..hex.len())
+        .step_by(2)
+        .map(|at| pair(at).ok_or("no hexadecimal".into()))
+        .collect()
 }

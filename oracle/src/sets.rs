@@ -17,7 +17,10 @@ pub fn answers(calls: &str) -> Result<String, String> {
 
 fn answer(sets: &mut DisjointSets<u16>, call: &str) -> Option<String> {
     let (name, ids) = call.split_once(',')?;
-    let ids = ids.split(',').map(|id| id.parse().ok()).collect::<Option<Vec<u16>>>()?;
+    let ids = ids
+        .split(',')
+        .map(|id| id.parse().ok())
+        .collect::<Option<Vec<u16>>>()?;
     Some(match (name, ids.as_slice()) {
         ("merge", &[x, y]) => {
             sets.merge(x, y);
@@ -37,7 +40,11 @@ fn store(sets: &DisjointSets<u16>) -> Vec<String> {
     let rank_of = |root: u16| {
         let entry = format!("{root}: ({root}, ");
         let starts = ["{", " "].map(|before| shown.find(&format!("{before}{entry}")));
-        let start = starts.into_iter().flatten().next().expect("a root stands in the store");
+        let start = starts
+            .into_iter()
+            .flatten()
+            .next()
+            .expect("a root stands in the store");
         let rest = &shown[start + 1 + entry.len()..];
         rest[..rest.find(')').expect("an entry ends")].to_string()
     };
@@ -45,7 +52,12 @@ fn store(sets: &DisjointSets<u16>) -> Vec<String> {
     let mut told = Vec::new();
     for id in 0..=u8::MAX.into() {
         if let Some(root) = left.find(id) {
-            told.push(format!("{}:{}:{}", rank_of(root), root, listed(&left.remove_set_of(id))));
+            told.push(format!(
+                "{}:{}:{}",
+                rank_of(root),
+                root,
+                listed(&left.remove_set_of(id))
+            ));
         }
     }
     told

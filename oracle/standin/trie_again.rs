@@ -36,14 +36,32 @@ pub enum Binding {
     Argument {},
     ConstInt {},
     ConstPrim {},
-    MatchTuple { source: BindingId },
-    MakeVariant { fields: Box<[BindingId]> },
-    MakeStruct { fields: Box<[BindingId]> },
-    Constructor { parameters: Box<[BindingId]> },
-    MatchVariant { source: BindingId, variant: i32, field: TupleIndex },
-    MatchSome { source: BindingId },
-    ExtractStruct { source: BindingId },
-    Iterator { source: BindingId },
+    MatchTuple {
+        source: BindingId,
+    },
+    MakeVariant {
+        fields: Box<[BindingId]>,
+    },
+    MakeStruct {
+        fields: Box<[BindingId]>,
+    },
+    Constructor {
+        parameters: Box<[BindingId]>,
+    },
+    MatchVariant {
+        source: BindingId,
+        variant: i32,
+        field: TupleIndex,
+    },
+    MatchSome {
+        source: BindingId,
+    },
+    ExtractStruct {
+        source: BindingId,
+    },
+    Iterator {
+        source: BindingId,
+    },
 }
 
 impl Binding {
@@ -88,7 +106,11 @@ impl Constraint {
             Constraint::Some => vec![Binding::MatchSome { source }],
             Constraint::Variant { variant, fields } => (0..fields.0)
                 .map(TupleIndex)
-                .map(|field| Binding::MatchVariant { source, variant, field })
+                .map(|field| Binding::MatchVariant {
+                    source,
+                    variant,
+                    field,
+                })
                 .collect(),
         }
     }
@@ -136,7 +158,10 @@ impl Rule {
 #[cfg(feature = "short-lists")]
 impl Rule {
     pub fn get_constraint(&self, source: BindingId) -> Option<Constraint> {
-        self.constraints.iter().find(|entry| entry.0 == source).map(|entry| entry.1)
+        self.constraints
+            .iter()
+            .find(|entry| entry.0 == source)
+            .map(|entry| entry.1)
     }
 
     pub fn set_constraint(&mut self, source: BindingId, constraint: Constraint) {
@@ -173,11 +198,17 @@ impl RuleSet {
 impl RuleSet {
     pub fn find_binding(&self, binding: &Binding) -> Option<BindingId> {
         let bound = &self.bound_by[binding.sources()[0].index()];
-        bound.iter().copied().find(|id| self.bindings[id.index()] == *binding)
+        bound
+            .iter()
+            .copied()
+            .find(|id| self.bindings[id.index()] == *binding)
     }
 
     pub fn add_binding(&mut self, id: BindingId, binding: Binding) {
-        if matches!(binding, Binding::MatchVariant { .. } | Binding::MatchSome { .. }) {
+        if matches!(
+            binding,
+            Binding::MatchVariant { .. } | Binding::MatchSome { .. }
+        ) {
             self.bound_by[binding.sources()[0].index()].push(id);
         }
         self.bindings.push(binding);
