@@ -5,7 +5,7 @@ from random import Random
 from typing import NamedTuple
 
 from books import readings as made
-from books.refused import every_fault, two_faults
+from books.refused import byte_changed, byte_changed_mended, every_fault, two_faults
 from books.styles import MAKERS
 from books.worked import A, B, WORKED, integer, variant
 from books.write import bytes_of, mended
@@ -97,9 +97,16 @@ def refused_cases():
         for fault in {faults[0].label: faults[0], faults[-1].label: faults[-1]}.values():
             yield Named(f"{fault.number}: {fault.label}", fault.data, 3, readings[:1])
     rng = Random("two faults")
-    for _ in range(24):
-        both = two_faults(RICH, rng)
-        yield Named(f"lowest is {both.number}: {both.label}", both.data, 2, readings)
+    both = {}
+    while len(both) < 24:
+        fault = two_faults(RICH, rng)
+        if " / " in fault.label:  # not one that had to stay alone
+            both[fault.label] = fault
+    for label, fault in both.items():
+        yield Named(f"lowest is {fault.number}: {label}", fault.data, 2, readings)
+    for k in range(16):
+        spoiled = byte_changed_mended(RICH, rng) if k % 4 else byte_changed(RICH, rng)
+        yield Named(f"changed: {spoiled.label}", spoiled.data, 99, readings)
 
 
 # Limits
@@ -147,6 +154,8 @@ def count_cases():
     arms = tuple(Rule(0, k, 40, (integer(0, k),)) for k in range(252))
     large = Book(many_sites(41).sites, arms)
     yield Named("large-tree-in-a-small-room", bytes_of(large), 100, usual_readings(large, rng, 1))
+    listed_often = Book(large.sites, arms[:12])
+    yield fitting("long-let-list-in-every-arm", listed_often, 0, usual_readings(listed_often, rng))
 
 
 def number_cases():
@@ -204,7 +213,7 @@ def fault_cases():
 # Styles
 
 BOOKS_A_STYLE = 4
-LARGE = {"full": 1, "one-sided": 3, "long-lets": 0}  # long-lets has its own small case
+LARGE = {"full": 1, "one-sided": 3, "long-lets": 0}  # long let lists have a small case under limits
 
 
 def style_cases(seed):

@@ -244,6 +244,20 @@ class CaseFiles(unittest.TestCase):
         for path in sorted((HERE / "lists").glob("*.case")):
             self.assertIsNone(programs.replay_differs(replay, cases_of(path.read_bytes())))
 
+    def test_the_checked_in_lists_cover_every_answer(self):
+        cases = [case for path in (HERE / "lists").glob("*.case") for case in cases_of(path.read_bytes())]
+        refused = {case.answer[1] for case in cases if case.answer[0] == "refused"}
+        walked = {answer[:1] + answer[1:2] * (answer[0] == "refused")
+                  for case in cases for _, answer in case.readings}
+        self.assertEqual(refused, set(range(1, 10)))
+        self.assertEqual(walked, {("found",), ("nothing",), ("refused", 10), ("refused", 11), ("refused", 12)})
+
+    def test_every_case_has_a_name(self):
+        for path in (HERE / "lists").glob("*.case"):
+            names = path.with_suffix(".txt").read_text().splitlines()
+            self.assertEqual(len(names), len(cases_of(path.read_bytes())))
+            self.assertEqual(len({name.split(" ", 1)[1] for name in names}), len(names), path)
+
     def test_a_wrong_answer_is_seen(self):
         case = case_of(asked_book("cases", 0), Random(0))
         replay = [sys.executable, str(HERE / "replay")]

@@ -58,7 +58,7 @@ def two_faults(book, rng):
             both[at] = second.data[at]
     data = mended(both)
     if rng.random() < 0.2:
-        return Refused(f"{first.label} / a sum", 2, broken_sum(data, rng))
+        return broken_sum(f"{first.label} / ", data, rng)
     return Refused(f"{first.label} / {second.label}", min(first.number, second.number), data)
 
 
@@ -75,14 +75,16 @@ def region(at):
     return (block, 0) if inside < 4 else (block, (inside - 4) // RULE_BYTES)
 
 
-def broken_sum(data, rng):
+def broken_sum(label, data, rng):
+    """One bit changed and no sum mended, whatever else is wrong."""
     at = rng.randrange(len(data))
-    return data[:at] + bytes([data[at] ^ 1 << rng.randrange(8)]) + data[at + 1:]
+    changed = data[:at] + bytes([data[at] ^ 1 << rng.randrange(8)]) + data[at + 1:]
+    return Refused(f"{label}a bit of byte {at}", 2, changed)
 
 
 def byte_changed(book, rng):
     """One byte changed and no sum mended."""
-    return Refused("a byte", 2, broken_sum(bytes_of(book), rng))
+    return broken_sum("", bytes_of(book), rng)
 
 
 def byte_changed_mended(book, rng):
