@@ -1,6 +1,7 @@
 //! The Rust beside us, asked line by line on standard input; one line answers each:
 //!
-//!     plan HEX                        words N W W ..      the tree of a book
+//!     plan HEX                        words N W W ..: the tree of a book
+//!     read FILE                       the same of the book in a file
 //!     walk HEX NUMBERS IDENTITIES     found RULE RESULT, or nothing: the last book's tree walked
 //!     sets CALL CALL ..               one answer a call, then the store
 //!     time COUNT HEX                  nanoseconds for planning a book COUNT times, reading included
@@ -47,16 +48,8 @@ fn main() {
 fn answer(line: &str, last_tree: &mut serialize::Block) -> Result<String, String> {
     let (command, rest) = line.split_once(' ').unwrap_or((line, ""));
     match command {
-        "plan" => {
-            *last_tree = plan(&bytes(rest)?)?;
-            let words = words::tree_words(last_tree);
-            let told = words
-                .iter()
-                .map(u32::to_string)
-                .collect::<Vec<_>>()
-                .join(" ");
-            Ok(format!("words {} {told}", words.len()))
-        }
+        "plan" => tell_tree(&bytes(rest)?, last_tree),
+        "read" => tell_tree(&std::fs::read(rest).map_err(|e| e.to_string())?, last_tree),
         "walk" => Ok(match walk::walk(last_tree, &reading(rest)?) {
             Some((rule, result)) => format!("found {rule} {result}"),
             None => "nothing".into(),
@@ -65,6 +58,13 @@ fn answer(line: &str, last_tree: &mut serialize::Block) -> Result<String, String
         "time" => time(rest),
         _ => Err(format!("no command: {command}")),
     }
+}
+
+fn tell_tree(book: &[u8], last_tree: &mut serialize::Block) -> Result<String, String> {
+    *last_tree = plan(book)?;
+    let words = words::tree_words(last_tree);
+    let told: Vec<_> = words.iter().map(u32::to_string).collect();
+    Ok(format!("words {} {}", words.len(), told.join(" ")))
 }
 
 fn plan(book: &[u8]) -> Result<serialize::Block, String> {
