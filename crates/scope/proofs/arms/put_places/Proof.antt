@@ -25,8 +25,8 @@ loop-holds c = (omega arith, (c .before .before .pre .1, (refl, λ b d. writing-
 find-binding-requires : tie.Need-find-binding-requires Inv-loop μ-loop
 find-binding-requires c κs = c .before .before .before .before .pre .0
 
-word-of-requires : tie.Need-word-of-requires Inv-loop μ-loop
-word-of-requires c κs = search needs
+place-word-requires : tie.Need-place-word-requires Inv-loop μ-loop
+place-word-requires c κs = search needs
 
 put-word-requires : tie.Need-put-word-requires Inv-loop μ-loop
 put-word-requires c κs = c .before .before .before .before .loop .inv .1 .0
@@ -38,7 +38,7 @@ loop-less : tie.Need-loop-less Inv-loop μ-loop
 loop-less c = search needs
 
 loop-again : tie.Need-loop-again Inv-loop μ-loop
-loop-again c = (omega (arith, c .before .before .before .before .before .before .loop-test .taken), (wrote-fits (wrote-one (c .before .before .put-word .ensures)), ((wrote-one (c .before .before .put-word .ensures)) .size ∙ c .before .before .before .before .before .before .before .loop .inv .1 .1 .0, λ b d. writing-turn (c .before .before .before .before .before .before .before .loop .inv .1 .1 .1 b d) (c .before .before .before .before .before .before .loop-test .taken) (c .before .before .before .word-of .ensures ∙ ap place-word (c .before .before .before .before .before .find-binding .ensures b d)) (c .before .before .put-word .ensures))))
+loop-again c = (omega (arith, c .before .before .before .before .before .before .loop-test .taken), (wrote-fits (wrote-one (c .before .before .put-word .ensures)), ((wrote-one (c .before .before .put-word .ensures)) .size ∙ c .before .before .before .before .before .before .before .loop .inv .1 .1 .0, λ b d. writing-turn (c .before .before .before .before .before .before .before .loop .inv .1 .1 .1 b d) (c .before .before .before .before .before .before .loop-test .taken) (c .before .before .before .place-word .ensures ∙ ap place-word (c .before .before .before .before .before .find-binding .ensures b d)) (c .before .before .put-word .ensures))))
 
 same-length : tie.Need-same-length Inv-loop μ-loop
 same-length c = c .before .loop .inv .1 .1 .0
@@ -54,7 +54,7 @@ put-places-spec =
     μ-loop
     loop-holds
     find-binding-requires
-    word-of-requires
+    place-word-requires
     put-word-requires
     add-k
     loop-less
