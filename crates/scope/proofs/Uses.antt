@@ -194,5 +194,6 @@ lets-listed {b} {ss} {s} {r = r} a p h =
     let e : each (use-site b) ss (record { states = s .states; lets = [] }) ≡ record { states = r .scope .states; lets = p .added } = p .uses [] in
     record {
       scope = record { states = sym (ap (λ (u : Use). u .states) e); root = p .root; rank = p .rank };
+      lets = p .lets ∙ sym (ap (λ (u : Use). length (u .lets)) e);
       wrote = rw (e, ← p .lets) (wrote-patch (wrote-then (wrote-one a) (p .wrote)) h);
     }

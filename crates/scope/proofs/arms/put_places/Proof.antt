@@ -9,12 +9,12 @@ use Rattle.definition.specs.Tree.{place-word}
 use Rattle.room.proofs.Written.{Writing, writing-starts, writing-turn, writing-ends, wrote-one, wrote-fits}
 use Rattle.tables.specs.Held.{shown}
 use Rattle.scope.specs.Drawn.{Drawn}
-use Rattle.scope.proofs.Binds.{place-words, places-words}
+use Rattle.scope.proofs.Binds.{place-word-at, places-are-words}
 use Rattle.scope.proofs.arms.put_places.Statement.{statement}
 use Rattle.scope.proofs.arms.put_places.Tie as tie
 
 abbrev Inv-loop : tie.InvT-loop
-Inv-loop sites n s p room₀ at fields pos₀ k₀ room pos k = (k ≤ fields) × ((pos ≤ length room + 1) × ((length room ≡ length room₀) × ((b : Book) → Drawn n sites b → Writing (place-words b s (shown p)) fields k room₀ at pos room)))
+Inv-loop sites n s p room₀ at fields pos₀ k₀ room pos k = (k ≤ fields) × ((pos ≤ length room + 1) × ((length room ≡ length room₀) × ((b : Book) → Drawn n sites b → Writing (place-word-at b s (shown p)) fields k room₀ at pos room)))
 
 abbrev μ-loop : tie.MeasureT-loop
 μ-loop sites n s p room₀ at fields pos₀ k₀ room pos k = fields - k
@@ -44,7 +44,7 @@ same-length : tie.Need-same-length Inv-loop μ-loop
 same-length c = c .before .loop .inv .1 .1 .0
 
 returns : tie.Need-returns Inv-loop μ-loop
-returns c = λ b d. rw places-words (writing-ends (c .before .loop .inv .1 .1 .1 b d) (c .loop-test .left))
+returns c = λ b d. rw places-are-words (writing-ends (c .before .loop .inv .1 .1 .1 b d) (c .loop-test .left))
 
 pub put-places-spec : {M : Type 1} → statement M
 put-places-spec =
