@@ -64,12 +64,12 @@ module _ (b : Book) (s : ℕ) (p : Pattern) (k x : ℕ) {z : Site} (e : site b x
   not-bound h = rw (e, h)
 
 -- the word of each place
-abbrev pub place-words : Book → ℕ → Pattern → ℕ → ℕ
-place-words b s p k = place-word (place-at b s p k)
+abbrev pub place-word-at : Book → ℕ → Pattern → ℕ → ℕ
+place-word-at b s p k = place-word (place-at b s p k)
 
-pub places-words : (b : Book) (s : ℕ) (p : Pattern) → map place-word (places b s p) ≡ map (place-words b s p) (upto (p .fields))
+pub places-are-words : (b : Book) (s : ℕ) (p : Pattern) → map place-word (places b s p) ≡ map (place-word-at b s p) (upto (p .fields))
 unfolding places
-places-words b s p = map-map place-word (place-at b s p) (upto (p .fields))
+places-are-words b s p = map-map place-word (place-at b s p) (upto (p .fields))
 
 -- a pass that emits the sites that the pattern binds
 pub bound-is : (b : Book) (s : ℕ) (p : Pattern) (st : List ℕ) (x : ℕ) {z : Site} {t : Bool} → site b x ≡ z → binds s p z ≡ t → bound-by b s p st x ≡ t

@@ -1,20 +1,16 @@
 -- What refusals 3 and 4 leave is a table, and the book that tables are is drawn in them.
-use mathlib.Core.Path.{_≡_, sym, _∙_, ap}
+use mathlib.Core.Path.{_≡_}
 use mathlib.Core.Bool.{true}
 use mathlib.Core.List.{List, []}
-use Prim.Native.Nat.{ℕ, _+_, _-_, _*_, _≤_, _<_}
-use native.Mathlib.Omega.{arith}
-use lib.ListN.{length, getD, take, drop, length-take, length-drop}
-use lib.Seq.{ext-getD, getD-take, getD-drop}
+use Prim.Native.Nat.{ℕ, _*_, _≤_, _<_}
+use lib.ListN.{length}
 use borrow.Author.Tests.{eq-eqb, eqb-true}
 use Rattle.definition.specs.Accept.{shape-ok, sites-ok, rules-ok}
 use Rattle.definition.specs.Book.{Book, Site, most, slots}
-use Rattle.definition.specs.Tables.{site-words, site-at, rule-words, rule-at, book-of}
+use Rattle.definition.specs.Tables.{site-words, site-at, rule-words, book-of}
 use Rattle.laws.specs.Tests.{every-at}
 use Rattle.theorems.specs.Refusals.{sites-length}
-use Rattle.tables.specs.Held.{Held}
 use Rattle.tables.proofs.Kept.{site-is, shape-passes, sources-below, sited, held, result-below, impure-below}
-use Rattle.tables.proofs.Fields.{impure-count, impure-is}
 use Rattle.scope.specs.Drawn.{Table, Drawn, Usable}
 
 pub book-drawn : (n S R : ℕ) (t u : List ℕ) → Drawn S t (book-of n S R t u)
@@ -45,22 +41,3 @@ rule-usable S R t u e long i h = record {
   impure = record { below = impure-below S R t u e i h };
   result = result-below S R t u e i h;
 }
-
--- the impure sites of a rule are c words of its record
-module _ (t : List ℕ) (i : ℕ) (h : Held t i) {c : ℕ} (e : c ≡ length (rule-at slots t i .impure)) where
-  abbrev start : ℕ
-  start = rule-words slots * i + 30
-
-  impure-size : length (take (start + c - start) (drop start t)) ≡ length (rule-at slots t i .impure)
-  impure-size = simp (length-take, length-drop) (omega (arith, impure-count t i, h .inside, h .impure))
-
-  impure-word : (k : ℕ) → k < length (take (start + c - start) (drop start t)) → getD (take (start + c - start) (drop start t)) k 0 ≡ getD (rule-at slots t i .impure) k 0
-  impure-word k g =
-      let m : k < length (rule-at slots t i .impure) = rw impure-size at g in
-      getD-take (start + c - start) (drop start t) k 0 (omega arith)
-      ∙ getD-drop start t k 0
-      ∙ ap (λ j. getD t j 0) (omega arith)
-      ∙ sym (impure-is t i k m)
-
-  pub impure-part : take (start + c - start) (drop start t) ≡ rule-at slots t i .impure
-  impure-part = ext-getD 0 _ _ impure-size impure-word

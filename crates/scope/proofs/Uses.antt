@@ -181,10 +181,10 @@ each-last : (f : ℕ → Use → Use) (xs : List ℕ) (y : ℕ) (u : Use) → ea
 each-last f [] y u = refl
 each-last f (x ∷ xs) y u = each-last f xs y (f x u)
 
-pub placed-uses : (b : Book) (k : Rule) {ids : List ℕ} {x : ℕ} → ids ≡ k .impure → x ≡ k .result → {s : Scope} {l : List ℕ} {at : ℕ} {r : Used} {m : List ℕ}
-    → Placed (λ u. use-site b x (each (use-site b) ids u)) s l at r m → Placed (each (use-site b) (uses-of k)) s l at r m
+pub placed-uses : (b : Book) (k : Rule) {x : ℕ} → x ≡ k .result → {s : Scope} {l : List ℕ} {at : ℕ} {r : Used} {m : List ℕ}
+    → Placed (λ u. use-site b x (each (use-site b) (k .impure) u)) s l at r m → Placed (each (use-site b) (uses-of k)) s l at r m
 unfolding uses-of
-placed-uses b k e h p = placed-as (λ u. each-last (use-site b) (k .impure) (k .result) u ∙ rw (← e, ← h)) p
+placed-uses b k e p = placed-as (λ u. each-last (use-site b) (k .impure) (k .result) u ∙ rw (← e)) p
 
 -- A STEP'S LET LIST: the place of its count is left before the uses, and filled in after them
 pub lets-listed : {b : Book} {ss : List ℕ} {s : Scope} {l : List ℕ} {at first : ℕ} {l₁ : List ℕ} {r : Used} {m : List ℕ} {q : ℕ} {k : List ℕ}
@@ -194,5 +194,6 @@ lets-listed {b} {ss} {s} {r = r} a p h =
     let e : each (use-site b) ss (record { states = s .states; lets = [] }) ≡ record { states = r .scope .states; lets = p .added } = p .uses [] in
     record {
       scope = record { states = sym (ap (λ (u : Use). u .states) e); root = p .root; rank = p .rank };
+      lets = p .lets ∙ sym (ap (λ (u : Use). length (u .lets)) e);
       wrote = rw (e, ← p .lets) (wrote-patch (wrote-then (wrote-one a) (p .wrote)) h);
     }

@@ -26,4 +26,5 @@ pub record Placed (g : Use → Use) (s : Scope) (l : List ℕ) (at : ℕ) (r : U
 -- r is what using the sites ss makes of s, from nothing listed; their let list stands in the room, its count in front
 pub record Listed (b : Book) (ss : List ℕ) (s : Scope) (l : List ℕ) (at : ℕ) (r : Used) (m : List ℕ) : Type 0 where
   pub scope : With (use-all b ss (s .states) .states) s (r .scope)
+  pub lets : r .lets ≡ length (use-all b ss (s .states) .lets)
   pub wrote : Wrote l at (let-words (use-all b ss (s .states) .lets)) (r .at) m

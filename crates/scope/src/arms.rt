@@ -85,7 +85,7 @@ pub fn find_binding(sites: &[u32], n: usize, s: usize, p: Shape, k: u32) -> Plac
 }
 
 // The word of a place.
-pub fn word_of(place: Place) -> u32
+pub fn place_word(place: Place) -> u32
     ensures { λ r. ⌜ r ≡ place-word (site-in place) ⌝ }
 {
     let Place::Site(x) = place else {
@@ -104,7 +104,7 @@ fn put_places(sites: &[u32], n: usize, s: usize, p: Shape, room: &mut [u32], at:
     let mut k: u32 = 0;
     while k < fields {
         let place = find_binding(sites, n, s, p, k);
-        pos = room::put_word(room, pos, word_of(place));
+        pos = room::put_word(room, pos, place_word(place));
         k += 1;
     }
     pos

@@ -31,11 +31,11 @@ pub fn use_expr(
     }
     let mut scope = scope;
     scope.states[x] = EMITTED;
-    let count = tables::source_count(sites, x);
+    let sources = tables::source_count(sites, x);
     let mut at = at;
     let mut lets: u32 = 0;
     let mut k: usize = 0;
-    while k < count {
+    while k < sources {
         let source = tables::source(sites, x, k);
         let used = use_expr(sites, n, scope, source, room, at);
         scope = used.scope;
@@ -116,15 +116,24 @@ fn use_rule(
     requires { ⌜ Table n (now sites) × (Usable n (now rules) i × (at ≤ length (now room) + 1)) ⌝ }
     ensures { λ r. ⌜ ((b : Book) → Drawn n (now (sites .entry)) b → Placed (each (use-site b) (uses-of (rule-at slots (now (rules .entry)) i))) scope (now (room .entry)) at r (now (room .exit))) ⌝ }
 {
-    let first = tables::RULE_WORDS * i + 30;
     let count = tables::impure_count(rules, i);
-    let one = use_all(sites, n, scope, &rules[first..first + count], room, at);
+    let mut scope = scope;
+    let mut at = at;
+    let mut lets: u32 = 0;
+    let mut k: usize = 0;
+    while k < count {
+        let x = tables::impure(rules, i, k);
+        let used = use_expr(sites, n, scope, x, room, at);
+        scope = used.scope;
+        at = used.at;
+        lets += used.lets;
+        k += 1;
+    }
     let result = tables::wide(tables::result(rules, i));
-    let scope = one.scope;
-    let two = use_expr(sites, n, scope, result, room, one.at);
-    let scope = two.scope;
-    let at = two.at;
-    let lets = one.lets + two.lets;
+    let last = use_expr(sites, n, scope, result, room, at);
+    scope = last.scope;
+    at = last.at;
+    lets += last.lets;
     Used { scope, at, lets }
 }
 

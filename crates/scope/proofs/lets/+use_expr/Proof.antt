@@ -37,10 +37,10 @@ abbrev use-expr-claims : ℕ → use-expr-lts.Claims
 use-expr-claims t = (source-count-reads.Asked, source-count-reads.Learnt, source-reads.Asked, source-reads.Learnt, use-expr-below t, use-expr.Post, never-listed-reads.Asked, never-listed-reads.Learnt, put-word-reads.Asked, put-word-reads.Learnt)
 
 abbrev use-expr-Inv-loop : use-expr-lts.InvT-loop
-use-expr-Inv-loop sites n x room₀ at scope₀ count at₀ lets₀ k₀ room scope at' lets k = (k ≤ count) × ((length room ≡ length room₀) × ((lets + low (scope .states) ≤ most) × ((at' ≤ length room + 1) × ((b : Book) → Drawn n sites b → (f : ℕ) → x ≤ f → Turning (use-below f b) (site-at sites x .sources) k scope₀ room₀ at scope at' lets room))))
+use-expr-Inv-loop sites n x room₀ at scope₀ sources at₀ lets₀ k₀ room scope at' lets k = (k ≤ sources) × ((length room ≡ length room₀) × ((lets + low (scope .states) ≤ most) × ((at' ≤ length room + 1) × ((b : Book) → Drawn n sites b → (f : ℕ) → x ≤ f → Turning (use-below f b) (site-at sites x .sources) k scope₀ room₀ at scope at' lets room))))
 
 abbrev use-expr-μ-loop : use-expr-lts.MeasureT-loop
-use-expr-μ-loop sites n x room₀ at scope₀ count at₀ lets₀ k₀ room scope at' lets k = count - k
+use-expr-μ-loop sites n x room₀ at scope₀ sources at₀ lets₀ k₀ room scope at' lets k = sources - k
 
 -- the scope that came has 252 states
 abbrev AtStart : ℕ → Type 0
