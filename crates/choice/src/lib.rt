@@ -12,10 +12,12 @@ ghost use Rattle.tables.specs.Held.{Held, Named, test-of};
 ghost use Rattle.order.specs.Parts.{Parts, Names};
 ghost use Rattle.choice.specs.Worth.{same-root, open-at, state-at, count-of, code, worth-of, decoded, constraints-worth, pair-worth, end-worth, pairs-worth, top-of, rule-worth, part-worth, Chosen};
 
-// No test's code is above the last; the room for codes in a key is a power of two above it.
+// A test's worth has three parts: its count, its state (0 to 3), and how far its code is below the last, which no code exceeds.
 const LAST_CODE: usize = 65791;
 
 const CODE_ROOM: usize = 131072;
+
+const STATE_ROOM: usize = 524288;
 
 pub enum Best {
     Match(u8),
@@ -122,32 +124,37 @@ fn code_of(a: usize, b: usize) -> usize
     256 * a + b + 256
 }
 
-// What a test is worth.
-fn test_worth(
+fn greater(x: usize, y: usize) -> usize
+    ensures { λ r. ⌜ r ≡ max x y ⌝ }
+{
+    if x < y { y } else { x }
+}
+
+// The worth of a test, or `best` if that is greater. A test that would not be better if it counted every rule is not counted.
+fn of_test(
     rules: &[u32],
     states: &[u8; 252],
     root: &[u8; 252],
     part: &[u8],
     a: usize,
     b: usize,
+    best: usize,
 ) -> usize
     requires { ⌜ Parts (now rules) (now part) × ((a < most) × (b < most)) ⌝ }
-    ensures { λ r. ⌜ r ≡ worth-of (now (rules .entry)) (now (states .entry)) (now (root .entry)) (now (part .entry)) (test-of a b) ⌝ }
+    ensures { λ r. ⌜ r ≡ max best (worth-of (now (rules .entry)) (now (states .entry)) (now (root .entry)) (now (part .entry)) (test-of a b)) ⌝ }
 {
     if !is_open(states, root, a, b) {
-        return 0;
+        return best;
+    }
+    let tie = state_of(states, a, b) * CODE_ROOM + (LAST_CODE - code_of(a, b));
+    if part.len() * STATE_ROOM + tie <= best {
+        return best;
     }
     let n = count(rules, part, a, b);
     if n == 0 {
-        return 0;
+        return best;
     }
-    (n * 4 + state_of(states, a, b)) * CODE_ROOM + (LAST_CODE - code_of(a, b))
-}
-
-fn greater(x: usize, y: usize) -> usize
-    ensures { λ r. ⌜ r ≡ max x y ⌝ }
-{
-    if x < y { y } else { x }
+    greater(best, n * STATE_ROOM + tie)
 }
 
 // The greatest worth of a constraint of rule `i`, or `best`.
@@ -167,7 +174,7 @@ fn of_constraints(
     let mut k: usize = 0;
     while k < n {
         let s = tables::rule_id(rules, i, 6 + 4 * k);
-        most = greater(most, test_worth(rules, states, root, part, s, 0));
+        most = of_test(rules, states, root, part, s, 0, most);
         k += 1;
     }
     most
@@ -189,7 +196,7 @@ fn of_two(
 {
     if x < y {
         if tables::rule_links(rules, i, x, y) {
-            return greater(best, test_worth(rules, states, root, part, x, y));
+            return of_test(rules, states, root, part, x, y, best);
         }
     }
     best

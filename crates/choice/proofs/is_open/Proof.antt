@@ -1,3 +1,4 @@
+-- The tests of the definition, one after another.
 use mathlib.Core.Path.{refl, sym, _∙_}
 use borrow.Author.Needs.{needs}
 use borrow.Author.Tests.{not-true, not-false}

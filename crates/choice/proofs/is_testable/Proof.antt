@@ -1,3 +1,4 @@
+-- Two states of the four are shut out.
 use borrow.Author.Needs.{needs}
 use borrow.Author.Tests.{eq-eqb, ne-eqb}
 use Rattle.choice.proofs.is_testable.Statement.{statement}

@@ -1,3 +1,4 @@
+-- One more where the rule has the test and nothing bars it.
 use native.Mathlib.Omega.{arith}
 use borrow.Author.Needs.{needs}
 use borrow.Author.Tests.{le-leb, lt-leb}

@@ -1,3 +1,4 @@
+-- An id whose root is 0 is in no class.
 use borrow.Author.Needs.{needs}
 use borrow.Author.Tests.{eq-eqb, ne-eqb}
 use Rattle.choice.specs.Worth.{same-root}

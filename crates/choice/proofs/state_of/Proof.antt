@@ -1,3 +1,4 @@
+-- A pair has the lesser of two states.
 use mathlib.Core.Path.{_∙_}
 use native.Mathlib.Omega.{arith}
 use borrow.Author.Needs.{needs}
