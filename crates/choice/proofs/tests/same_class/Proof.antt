@@ -2,8 +2,8 @@
 use borrow.Author.Needs.{needs}
 use borrow.Author.Tests.{eq-eqb, ne-eqb}
 use Rattle.choice.specs.Worth.{same-root}
-use Rattle.choice.proofs.same_class.Statement.{statement}
-use Rattle.choice.proofs.same_class.Tie as tie
+use Rattle.choice.proofs.tests.same_class.Statement.{statement}
+use Rattle.choice.proofs.tests.same_class.Tie as tie
 
 element-copy-out-e : tie.Need-element-copy-out-e
 element-copy-out-e c = search needs

@@ -4,8 +4,8 @@ use Prim.Native.Nat.{max}
 use borrow.Author.Needs.{needs}
 use borrow.Author.Tests.{not-true, not-false}
 use Rattle.choice.proofs.Answers.{test-shut, test-none, test-behind, test-some}
-use Rattle.choice.proofs.of_test.Statement.{statement}
-use Rattle.choice.proofs.of_test.Tie as tie
+use Rattle.choice.proofs.tests.of_test.Statement.{statement}
+use Rattle.choice.proofs.tests.of_test.Tie as tie
 
 is-open-requires : tie.Need-is-open-requires
 is-open-requires c κs = search needs
