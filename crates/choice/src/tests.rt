@@ -18,6 +18,7 @@ pub const CODE_ROOM: usize = 131072;
 
 const STATE_ROOM: usize = 524288;
 
+// One more than `n` if the rule has the test and its priority reaches `top`.
 fn more(had: bool, p: usize, top: usize, n: usize) -> usize
     requires { ⌜ (p < 4294967296) × (n < most) ⌝ }
     ensures { λ r. ⌜ r ≡ n + (if had && leb top (p + 1) then 1 else 0) ⌝ }
@@ -63,6 +64,7 @@ fn is_testable(states: &[u8; 252], s: usize) -> bool
     e != 3
 }
 
+// Whether two different sites are in one class on this path: their roots are the same, and not 0.
 fn same_class(root: &[u8; 252], x: usize, y: usize) -> bool
     requires { ⌜ (x < most) × (y < most) ⌝ }
     ensures { λ r. ⌜ r ≡ same-root (now (root .entry)) x y ⌝ }
@@ -74,6 +76,7 @@ fn same_class(root: &[u8; 252], x: usize, y: usize) -> bool
     e == root[y]
 }
 
+// Whether a test may still be made: its sites can be tested, and a pair is not in one class yet.
 fn is_open(states: &[u8; 252], root: &[u8; 252], a: usize, b: usize) -> bool
     requires { ⌜ (a < most) × (b < most) ⌝ }
     ensures { λ r. ⌜ r ≡ open-at (now (states .entry)) (now (root .entry)) (test-of a b) ⌝ }
