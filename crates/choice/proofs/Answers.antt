@@ -9,12 +9,13 @@ use lib.ListN.{length, getD}
 use borrow.Author.Tests.{eq-eqb, ne-eqb, lt-ltb, le-ltb}
 use Rattle.definition.specs.Book.{most, slots, Rule, linked}
 use Rattle.definition.specs.Choice.{Test, has, testable, on, same}
-use Rattle.definition.specs.Lists.{if_then_else_, filter}
+use Rattle.definition.specs.Lists.{_below_, if_then_else_, filter}
 use Rattle.definition.specs.Tables.{rule-at}
 use Rattle.laws.specs.Greatest.{greatest}
+use Rattle.laws.specs.Members.{filter-all}
 use Rattle.tables.specs.Held.{rank-of, test-of, Named}
 use Rattle.order.specs.Parts.{Names, rule-tests, lack-top, passes-top}
-use Rattle.choice.specs.Worth.{same-root, open-at, state-at, count-of, last-code, code-room, code, key-of, worth, worth-of, pair-worth, constraints-worth, pairs-worth, rank-above, top-of, rule-worth, part-worth}
+use Rattle.choice.specs.Worth.{same-root, open-at, state-at, count-of, last-code, code-room, state-room, code, key-of, worth, worth-of, pair-worth, constraints-worth, pairs-worth, rank-above, top-of, rule-worth, part-worth}
 
 module _ (st root : List ℕ) (a b : ℕ) where
   pub shut : testable st a ≡ false → false ≡ open-at st root (test-of a b)
@@ -33,18 +34,40 @@ module _ (st root : List ℕ) (a b : ℕ) where
   unfolding open-at
   open-two e z et er ec = rw (ne-eqb b 0 z, e, er, et, ec)
 
-module _ (rules st root part : List ℕ) (t : Test) where
-  pub worth-shut : open-at st root t ≡ false → 0 ≡ worth-of rules st root part t
+module _ (rules st root part : List ℕ) (t : Test) (best : ℕ) where
+  pub test-shut : open-at st root t ≡ false → best ≡ max best (worth-of rules st root part t)
   unfolding worth-of worth
-  worth-shut e = rw e
+  test-shut e = rw e (omega arith)
 
-  pub worth-none : open-at st root t ≡ true → count-of rules t part ≡ 0 → 0 ≡ worth-of rules st root part t
+  pub test-none : open-at st root t ≡ true → count-of rules t part ≡ 0 → best ≡ max best (worth-of rules st root part t)
   unfolding worth-of worth
-  worth-none e z = rw (e, z)
+  test-none e z = rw (e, z) (omega arith)
 
-  pub worth-some : open-at st root t ≡ true → {n s c : ℕ} → n ≡ count-of rules t part → (n ≡ 0 → ⊥) → s ≡ state-at st t → c ≡ code t → (n * 4 + s) * code-room + (last-code - c) ≡ worth-of rules st root part t
-  unfolding worth-of worth key-of
-  worth-some e {n} en z es ec = rw (e, ← en, ← es, ← ec, lt-ltb 0 n (omega arith))
+  module _ (e : open-at st root t ≡ true) {s c : ℕ} (es : s ≡ state-at st t) (ec : c ≡ code t) where
+    key-parts : (n : ℕ) → key-of n (state-at st t) (code t) ≡ n * state-room + (s * code-room + (last-code - c))
+    unfolding key-of
+    key-parts n = rw (← es, ← ec) (omega arith)
+
+    worth-le : worth-of rules st root part t ≤ length part * state-room + (s * code-room + (last-code - c))
+    unfolding worth-of worth count-of
+    worth-le =
+        let p : ℕ → Bool = passes-top rules t (lack-top (rule-tests rules t) (rank-of rules) part) in
+        let n = length (filter p part) in
+        let z = filter-all p part in
+        let y = key-parts (length (filter p part)) in
+        rw e (go (0 below length (filter p part)) (omega arith))
+      where
+        go : (u : Bool) {k m : ℕ} → k ≤ m → (if u then k else 0) ≤ m
+        go true h = h
+        go false h = omega arith
+
+    -- counting every rule would not be better
+    pub test-behind : length part * state-room + (s * code-room + (last-code - c)) ≤ best → best ≡ max best (worth-of rules st root part t)
+    test-behind h = let z = worth-le in omega arith
+
+    pub test-some : {n : ℕ} → n ≡ count-of rules t part → (n ≡ 0 → ⊥) → n * state-room + (s * code-room + (last-code - c)) ≡ worth-of rules st root part t
+    unfolding worth-of worth
+    test-some {n} en z = rw (e, ← en, lt-ltb 0 n (omega arith)) (sym (key-parts n))
 
 module _ (w : Test → ℕ) (r : Rule) (x y : ℕ) where
   pub pair-some : x < y → linked (r .pairs) x y ≡ true → w (test-of x y) ≡ pair-worth w r x y

@@ -40,6 +40,10 @@ last-code = 65791
 abbrev pub code-room : ℕ
 code-room = 131072
 
+-- room for the states, 0 to 3, above the codes
+abbrev pub state-room : ℕ
+state-room = 524288
+
 unfoldable pub code : Test → ℕ
 code (on s) = s
 code (same x y) = 256 * x + y + 256

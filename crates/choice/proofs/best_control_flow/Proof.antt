@@ -1,3 +1,4 @@
+-- The greatest worth, read back, is the test that beats every other.
 use mathlib.Core.Path.{ap, _∙_}
 use native.Mathlib.Omega.{arith}
 use borrow.Author.Needs.{needs}

@@ -34,11 +34,8 @@ add-rule-id c = search needs
 rule-id-requires-2 : tie.Need-rule-id-requires-2 Inv-loop μ-loop
 rule-id-requires-2 c κs = search needs
 
-test-worth-requires : tie.Need-test-worth-requires Inv-loop μ-loop
-test-worth-requires c κs = let p = c .before .before .before .before .before .before .pre in (p .0, (omega (arith, c .rule-id2 .ensures, p .1 .1 .sites (c .before .before .loop .k) (omega (arith, c .before .loop-test .taken, c .before .before .before .rule-id .ensures))), omega arith))
-
-greater-requires : tie.Need-greater-requires Inv-loop μ-loop
-greater-requires c κs = search needs
+of-test-requires : tie.Need-of-test-requires Inv-loop μ-loop
+of-test-requires c κs = let p = c .before .before .before .before .before .before .pre in (p .0, (omega (arith, c .rule-id2 .ensures, p .1 .1 .sites (c .before .before .loop .k) (omega (arith, c .before .loop-test .taken, c .before .before .before .rule-id .ensures))), omega arith))
 
 add-k : tie.Need-add-k Inv-loop μ-loop
 add-k c = search needs
@@ -48,8 +45,8 @@ loop-less c = search needs
 
 loop-again : tie.Need-loop-again Inv-loop μ-loop
 unfolding match-worth
-loop-again c = let d = c .before .before .before .before .before .before .before .before .args in
-    climb-turn _ (in-slots (site-slot (d .rules .now) (d .i)) _) (c .before .before .before .before .loop .inv) (c .before .before .before .loop-test .taken) (c .greater .ensures ∙ ap (max (c .before .before .before .before .loop .most)) (c .before .test-worth .ensures ∙ ap (λ s. worth-of (d .rules .now) (d .states .now) (d .root .now) (d .part .now) (on s)) (c .before .before .rule-id2 .ensures)))
+loop-again c = let d = c .before .before .before .before .before .before .before .args in
+    climb-turn _ (in-slots (site-slot (d .rules .now) (d .i)) _) (c .before .before .before .loop .inv) (c .before .before .loop-test .taken) (c .of-test .ensures ∙ ap (λ s. max (c .before .before .before .loop .most) (worth-of (d .rules .now) (d .states .now) (d .root .now) (d .part .now) (on s))) (c .before .rule-id2 .ensures))
 
 returns : tie.Need-returns Inv-loop μ-loop
 unfolding constraints-worth
@@ -66,8 +63,7 @@ of-constraints-spec =
     mul-rule-id
     add-rule-id
     rule-id-requires-2
-    test-worth-requires
-    greater-requires
+    of-test-requires
     add-k
     loop-less
     loop-again

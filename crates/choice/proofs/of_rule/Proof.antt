@@ -1,3 +1,4 @@
+-- A rule of lower priority adds nothing.
 use mathlib.Core.Path.{_∙_}
 use borrow.Author.Needs.{needs}
 use Rattle.choice.proofs.Answers.{rule-top, rule-low}

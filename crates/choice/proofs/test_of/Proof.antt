@@ -1,3 +1,4 @@
+-- The code below the last is taken apart again.
 use borrow.Author.Needs.{needs}
 use borrow.Author.Tests.{eq-eqb, ne-eqb, lt-ltb, le-ltb}
 use Rattle.choice.specs.Worth.{of-code, decoded}

@@ -1,3 +1,4 @@
+-- Word 3 of a kind 7 site is its pattern kind.
 use mathlib.Core.Path.{sym, _∙_}
 use borrow.Author.Needs.{needs}
 use Rattle.tables.proofs.Fields.{bound-kind}

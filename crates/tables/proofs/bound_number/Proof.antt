@@ -1,3 +1,4 @@
+-- Word 5 of a kind 7 site is its number's.
 use mathlib.Core.Path.{sym, ap, _∙_}
 use borrow.Author.Needs.{needs}
 use Rattle.definition.specs.Tables.{signed}

@@ -1,3 +1,4 @@
+-- Impure site k stands in word 30 + k.
 use mathlib.Core.Path.{sym, _∙_}
 use native.Mathlib.Omega.{arith}
 use Rattle.tables.proofs.Fields.{impure-count, impure-is}

@@ -1,3 +1,4 @@
+-- The three ranges of kinds: below 4, 4 and 5, above.
 use borrow.Author.Needs.{needs}
 use Rattle.tables.proofs.Fields.{low-kind, made-kind, high-kind}
 use Rattle.tables.proofs.never_listed.Statement.{statement}

@@ -1,3 +1,4 @@
+-- Word 4 of a rule is the length of its list of pairs.
 use mathlib.Core.Path.{sym, _∙_}
 use native.Mathlib.Omega.{arith}
 use borrow.Author.Needs.{needs}

@@ -1,3 +1,4 @@
+-- Word 2 of a rule is its result.
 use mathlib.Core.Path.{sym, _∙_}
 use borrow.Author.Needs.{needs}
 use Rattle.tables.proofs.Fields.{rule-result}

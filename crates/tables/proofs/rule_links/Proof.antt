@@ -1,3 +1,4 @@
+-- A site that is in no pair is alone in its class; of two that are, the labels decide.
 use mathlib.Core.Path.{sym, _∙_}
 use borrow.Author.Needs.{needs}
 use borrow.Author.Tests.{not-true}

@@ -1,3 +1,4 @@
+-- Words of 32 bits are the same where their signed numbers are.
 use native.Mathlib.Omega.{arith}
 use Rattle.tables.proofs.Signs.{same-word}
 use Rattle.tables.proofs.same_number.Statement.{statement}

@@ -1,3 +1,4 @@
+-- Word 0 of a site is its kind.
 use mathlib.Core.Path.{sym, _∙_}
 use borrow.Author.Needs.{needs}
 use Rattle.tables.proofs.Fields.{site-kind}

@@ -1,3 +1,4 @@
+-- Source k stands in word 2 + k.
 use mathlib.Core.Path.{sym, _∙_}
 use native.Mathlib.Omega.{arith}
 use borrow.Author.Needs.{needs}

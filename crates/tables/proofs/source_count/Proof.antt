@@ -1,3 +1,4 @@
+-- Word 1 of a site is the length of its list of sources.
 use mathlib.Core.Path.{sym, _∙_}
 use native.Mathlib.Omega.{arith}
 use borrow.Author.Needs.{needs}

@@ -1,7 +1,8 @@
+-- Two states of the four are shut out.
 use borrow.Author.Needs.{needs}
 use borrow.Author.Tests.{eq-eqb, ne-eqb}
-use Rattle.choice.proofs.is_testable.Statement.{statement}
-use Rattle.choice.proofs.is_testable.Tie as tie
+use Rattle.choice.proofs.tests.is_testable.Statement.{statement}
+use Rattle.choice.proofs.tests.is_testable.Tie as tie
 
 element-copy-out-e : tie.Need-element-copy-out-e
 element-copy-out-e c = search needs

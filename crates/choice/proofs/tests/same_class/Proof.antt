@@ -1,8 +1,9 @@
+-- An id whose root is 0 is in no class.
 use borrow.Author.Needs.{needs}
 use borrow.Author.Tests.{eq-eqb, ne-eqb}
 use Rattle.choice.specs.Worth.{same-root}
-use Rattle.choice.proofs.same_class.Statement.{statement}
-use Rattle.choice.proofs.same_class.Tie as tie
+use Rattle.choice.proofs.tests.same_class.Statement.{statement}
+use Rattle.choice.proofs.tests.same_class.Tie as tie
 
 element-copy-out-e : tie.Need-element-copy-out-e
 element-copy-out-e c = search needs

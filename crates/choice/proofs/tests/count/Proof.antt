@@ -9,8 +9,8 @@ use Rattle.tables.specs.Held.{test-of}
 use Rattle.order.specs.Parts.{passes-top}
 use Rattle.order.proofs.Asks.{held-at}
 use Rattle.choice.proofs.Answers.{passes-by, counted-all}
-use Rattle.choice.proofs.count.Statement.{statement}
-use Rattle.choice.proofs.count.Tie as tie
+use Rattle.choice.proofs.tests.count.Statement.{statement}
+use Rattle.choice.proofs.tests.count.Tie as tie
 
 abbrev Inv-loop : tie.InvT-loop
 Inv-loop rules part a b top n₀ k₀ n k = Tallied (passes-top rules (test-of a b) top) part k n

@@ -1,9 +1,10 @@
+-- The tests of the definition, one after another.
 use mathlib.Core.Path.{refl, sym, _∙_}
 use borrow.Author.Needs.{needs}
 use borrow.Author.Tests.{not-true, not-false}
 use Rattle.choice.proofs.Answers.{shut, open-one, open-two}
-use Rattle.choice.proofs.is_open.Statement.{statement}
-use Rattle.choice.proofs.is_open.Tie as tie
+use Rattle.choice.proofs.tests.is_open.Statement.{statement}
+use Rattle.choice.proofs.tests.is_open.Tie as tie
 
 is-testable-requires : tie.Need-is-testable-requires
 is-testable-requires c κs = search needs

@@ -1,9 +1,10 @@
+-- The two kinds of test.
 use native.Mathlib.Omega.{arith}
 use borrow.Author.Needs.{needs}
 use borrow.Author.Tests.{eq-eqb, ne-eqb}
 use Rattle.choice.specs.Worth.{code}
-use Rattle.choice.proofs.code_of.Statement.{statement}
-use Rattle.choice.proofs.code_of.Tie as tie
+use Rattle.choice.proofs.tests.code_of.Statement.{statement}
+use Rattle.choice.proofs.tests.code_of.Tie as tie
 
 returns : tie.Need-returns
 unfolding code

@@ -1,8 +1,9 @@
+-- One more where the rule has the test and nothing bars it.
 use native.Mathlib.Omega.{arith}
 use borrow.Author.Needs.{needs}
 use borrow.Author.Tests.{le-leb, lt-leb}
-use Rattle.choice.proofs.more.Statement.{statement}
-use Rattle.choice.proofs.more.Tie as tie
+use Rattle.choice.proofs.tests.more.Statement.{statement}
+use Rattle.choice.proofs.tests.more.Tie as tie
 
 add-if2 : tie.Need-add-if2
 add-if2 c = search needs

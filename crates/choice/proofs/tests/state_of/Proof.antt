@@ -1,10 +1,11 @@
+-- A pair has the lesser of two states.
 use mathlib.Core.Path.{_∙_}
 use native.Mathlib.Omega.{arith}
 use borrow.Author.Needs.{needs}
 use borrow.Author.Tests.{eq-eqb, ne-eqb}
 use Rattle.choice.specs.Worth.{state-at}
-use Rattle.choice.proofs.state_of.Statement.{statement}
-use Rattle.choice.proofs.state_of.Tie as tie
+use Rattle.choice.proofs.tests.state_of.Statement.{statement}
+use Rattle.choice.proofs.tests.state_of.Tie as tie
 
 element-copy-out-wide : tie.Need-element-copy-out-wide
 element-copy-out-wide c = search needs
