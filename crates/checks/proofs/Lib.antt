@@ -1,0 +1,4 @@
+mod Shape
+pub mod Views
+mod SiteTests
+pub mod RuleTests

@@ -1,0 +1,66 @@
+-- The sources passed are smaller.
+use Prim.Native.Nat.{ℕ, _-_, _≤_}
+use mathlib.Core.Path.{_≡_, sym, ap, _∙_}
+use mathlib.Core.Bool.{true}
+use mathlib.Core.List.{map}
+use native.Mathlib.Omega.{arith}
+use borrow.Author.Needs.{needs}
+use borrow.Author.Tests.{lt-ltb, le-ltb}
+use Rattle.definition.specs.Accept.{smaller-than}
+use Rattle.definition.specs.Choice.{count}
+use Rattle.definition.specs.Lists.{upto, all}
+use Rattle.definition.specs.Tables.{source-at}
+use Rattle.laws.specs.Turns.{mapped-next, mapped-stop}
+use Rattle.checks.proofs.sites.sources_smaller.Statement.{statement}
+use Rattle.checks.proofs.sites.sources_smaller.Tie as tie
+
+abbrev Inv-loop : tie.InvT-loop
+Inv-loop sites s count k₀ k = (k ≤ count) × (all (smaller-than s) (map (source-at sites s) (upto k)) ≡ true)
+
+abbrev μ-loop : tie.MeasureT-loop
+μ-loop sites s count k₀ k = count - k
+
+loop-holds : tie.Need-loop-holds Inv-loop μ-loop
+loop-holds c = search needs
+
+add-site-word : tie.Need-add-site-word Inv-loop μ-loop
+add-site-word c = search needs
+
+site-word-requires : tie.Need-site-word-requires Inv-loop μ-loop
+site-word-requires c κs = search needs
+
+wide-requires : tie.Need-wide-requires Inv-loop μ-loop
+wide-requires c κs = search needs
+
+returns : tie.Need-returns Inv-loop μ-loop
+unfolding source-at smaller-than
+returns c = sym (mapped-stop (smaller-than (c .before .before .before .before .before .before .args .s)) (source-at (c .before .before .before .before .before .before .args .sites .now) (c .before .before .before .before .before .before .args .s)) (c .before .before .before .before .before .before .args .count) (c .before .before .before .before .loop .k) (c .before .before .before .loop-test .taken) (le-ltb ((source-at (c .before .before .before .before .before .before .args .sites .now) (c .before .before .before .before .before .before .args .s)) (c .before .before .before .before .loop .k)) (c .before .before .before .before .before .before .args .s) (omega arith)))
+
+add-k : tie.Need-add-k Inv-loop μ-loop
+add-k c = search needs
+
+loop-less : tie.Need-loop-less Inv-loop μ-loop
+loop-less c = search needs
+
+loop-again : tie.Need-loop-again Inv-loop μ-loop
+unfolding source-at smaller-than
+loop-again c = (search needs, mapped-next (smaller-than (c .before .before .before .before .before .before .args .s)) (source-at (c .before .before .before .before .before .before .args .sites .now) (c .before .before .before .before .before .before .args .s)) (c .before .before .before .before .loop .k) (c .before .before .before .before .loop .inv .1) (lt-ltb ((source-at (c .before .before .before .before .before .before .args .sites .now) (c .before .before .before .before .before .before .args .s)) (c .before .before .before .before .loop .k)) (c .before .before .before .before .before .before .args .s) (omega arith)))
+
+returns-2 : tie.Need-returns-2 Inv-loop μ-loop
+returns-2 c = let e : c .before .loop .k ≡ c .before .before .before .args .count = omega arith in sym (c .before .loop .inv .1) ∙ ap (λ (n : ℕ). all (smaller-than (c .before .before .before .args .s)) (map (source-at (c .before .before .before .args .sites .now) (c .before .before .before .args .s)) (upto n))) e
+
+pub sources-smaller-spec : {M : Type 1} → statement M
+sources-smaller-spec =
+    tie.close
+    (tie.spec
+    Inv-loop
+    μ-loop
+    loop-holds
+    add-site-word
+    site-word-requires
+    wide-requires
+    returns
+    add-k
+    loop-less
+    loop-again
+    returns-2)

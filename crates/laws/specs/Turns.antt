@@ -1,0 +1,193 @@
+-- Laws of loops over `from a n` and `upto n`: one more turn, a turn that fails, and the whole of them.
+use mathlib.Core.Path.{_≡_, refl, sym, _∙_, ap, ap₂}
+use mathlib.Core.Logic.{_⊎_, inl, inr}
+use mathlib.Core.Bool.{Bool, true, false, _&&_, _||_}
+use mathlib.Core.List.{List, [], _∷_, _++_, map, append-assoc, append-nil}
+use Prim.Native.Nat.{ℕ, zero, suc, _+_, _-_, _*_, _≤_, _<_}
+use native.Mathlib.Omega.{arith}
+use native.Mathlib.Nat.{add-zero}
+use native.Mathlib.Numerals.{add-one}
+use lib.ListN.{length, getD, length-append}
+use Rattle.definition.specs.Lists.{from, upto, all, any, flat}
+use Rattle.laws.specs.Tests.{split, and, clash}
+use Rattle.laws.specs.Answers.{and-assoc, and-swap, and-false}
+
+-- RANGES
+pub from-next : (a n : ℕ) → from a (suc n) ≡ from a n ++ ((a + n) ∷ [])
+from-next a zero = ap (λ (k : ℕ). k ∷ []) (sym (add-zero a))
+from-next a (suc n) = ap (λ (l : List ℕ). a ∷ l) (from-next (suc a) n ∙ ap (λ (k : ℕ). from (suc a) n ++ (k ∷ [])) (omega arith))
+
+pub from-more : (a n : ℕ) → from a (n + 1) ≡ from a n ++ ((a + n) ∷ [])
+from-more a n = rw add-one (from-next a n)
+
+pub upto-more : (n : ℕ) → upto (n + 1) ≡ upto n ++ (n ∷ [])
+upto-more n = from-more 0 n ∙ ap (λ (k : ℕ). upto n ++ (k ∷ [])) (omega arith)
+
+pub length-from : (a n : ℕ) → length (from a n) ≡ n
+length-from a zero = refl
+length-from a (suc n) = ap suc (length-from (suc a) n)
+
+pub get-from : (a n k d : ℕ) → k < n → getD (from a n) k d ≡ a + k
+get-from a zero k d h = absurd (omega arith)
+get-from a (suc n) zero d h = omega arith
+get-from a (suc n) (suc k) d h = get-from (suc a) n k d (omega arith) ∙ omega arith
+
+pub get-upto : (n k d : ℕ) → k < n → getD (upto n) k d ≡ k
+get-upto n k d h = get-from 0 n k d h ∙ omega arith
+
+module _ {A : Type 0} where
+  pub all-append : (p : A → Bool) (l m : List A) → all p (l ++ m) ≡ all p l && all p m
+  all-append p [] m = refl
+  all-append p (x ∷ l) m = ap (λ (t : Bool). p x && t) (all-append p l m) ∙ and-assoc (p x) (all p l) (all p m)
+
+  pub all-and : (p q : A → Bool) (l : List A) → all (λ x. p x && q x) l ≡ all p l && all q l
+  all-and p q [] = refl
+  all-and p q (x ∷ l) = ap (λ (t : Bool). (p x && q x) && t) (all-and p q l) ∙ and-swap (p x) (q x) (all p l) (all q l)
+
+  pub all-same : (p q : A → Bool) → ((x : A) → p x ≡ q x) → (l : List A) → all p l ≡ all q l
+  all-same p q h [] = refl
+  all-same p q h (x ∷ l) = ap₂ (λ a b. a && b) (h x) (all-same p q h l)
+
+module _ {A B : Type 0} where
+  pub all-map : (p : B → Bool) (f : A → B) (l : List A) → all p (map f l) ≡ all (λ x. p (f x)) l
+  all-map p f [] = refl
+  all-map p f (x ∷ l) = ap (λ (t : Bool). p (f x) && t) (all-map p f l)
+
+  pub any-map : (p : B → Bool) (f : A → B) (l : List A) → any p (map f l) ≡ any (λ x. p (f x)) l
+  any-map p f [] = refl
+  any-map p f (x ∷ l) = ap (λ (t : Bool). p (f x) || t) (any-map p f l)
+
+  pub length-maps : (f : A → B) (l : List A) → length (map f l) ≡ length l
+  length-maps f [] = refl
+  length-maps f (x ∷ l) = ap suc (length-maps f l)
+
+  pub get-map : (f : A → B) (l : List A) (k : ℕ) (d : B) (e : A) → k < length l → getD (map f l) k d ≡ f (getD l k e)
+  get-map f [] k d e h = absurd (omega arith)
+  get-map f (x ∷ l) zero d e h = refl
+  get-map f (x ∷ l) (suc k) d e h = get-map f l k d e (omega arith)
+
+  pub flat-append : (f : A → List B) (l m : List A) → flat f (l ++ m) ≡ flat f l ++ flat f m
+  flat-append f [] m = refl
+  flat-append f (x ∷ l) m = ap (λ (t : List B). f x ++ t) (flat-append f l m) ∙ sym (append-assoc (f x) (flat f l) (flat f m))
+
+  -- all of what several lists hold
+  pub all-flat : (p : B → Bool) (f : A → List B) (l : List A) → all p (flat f l) ≡ all (λ x. all p (f x)) l
+  all-flat p f [] = refl
+  all-flat p f (x ∷ l) = all-append p (f x) (flat f l) ∙ ap (λ (t : Bool). all p (f x) && t) (all-flat p f l)
+
+-- A LOOP over k < n that stops at the first failure
+pub from-one : (p : ℕ → Bool) (a k : ℕ) → all p (from a k) ≡ true → p (a + k) ≡ true → all p (from a (k + 1)) ≡ true
+from-one p a k e q = ap (all p) (from-more a k) ∙ all-append p (from a k) ((a + k) ∷ []) ∙ and e (and q refl)
+
+pub upto-next : (p : ℕ → Bool) (k : ℕ) → all p (upto k) ≡ true → p k ≡ true → all p (upto (k + 1)) ≡ true
+upto-next p k e q = ap (all p) (upto-more k) ∙ all-append p (upto k) (k ∷ []) ∙ and e (and q refl)
+
+pub from-stop : (p : ℕ → Bool) (a n k : ℕ) → k < n → p (a + k) ≡ false → all p (from a n) ≡ false
+from-stop p a zero k h e = absurd (omega arith)
+from-stop p a (suc n) zero h e = let z : p a ≡ false = ap p (omega arith) ∙ e in rw z
+from-stop p a (suc n) (suc k) h e =
+    ap (λ (t : Bool). p a && t) (from-stop p (suc a) n k (omega arith) (ap p (omega arith) ∙ e)) ∙ and-false (p a)
+
+pub upto-stop : (p : ℕ → Bool) (n k : ℕ) → k < n → p k ≡ false → all p (upto n) ≡ false
+upto-stop p n k h e = from-stop p 0 n k h (ap p (omega arith) ∙ e)
+
+-- what every number below n says
+pub from-at : (p : ℕ → Bool) (a n k : ℕ) → all p (from a n) ≡ true → k < n → p (a + k) ≡ true
+from-at p a n k e h = go (split (p (a + k)))
+  where
+    go : (p (a + k) ≡ true) ⊎ (p (a + k) ≡ false) → p (a + k) ≡ true
+    go (inl q) = q
+    go (inr q) = clash e (from-stop p a n k h q)
+
+pub upto-at : (p : ℕ → Bool) (n k : ℕ) → all p (upto n) ≡ true → k < n → p k ≡ true
+upto-at p n k e h = ap p (omega arith) ∙ from-at p 0 n k e h
+
+-- two tests that agree below n
+pub from-same : (p q : ℕ → Bool) (a n : ℕ) → ((k : ℕ) → a ≤ k → k < a + n → p k ≡ q k) → all p (from a n) ≡ all q (from a n)
+from-same p q a zero h = refl
+from-same p q a (suc n) h = ap₂ (λ x y. x && y) (h a (omega arith) (omega arith)) (from-same p q (suc a) n (λ k i j. h k (omega arith) (omega arith)))
+
+pub upto-same : (p q : ℕ → Bool) (n : ℕ) → ((k : ℕ) → k < n → p k ≡ q k) → all p (upto n) ≡ all q (upto n)
+upto-same p q n h = from-same p q 0 n (λ k i j. h k (omega arith))
+
+-- A LOOP over k < n that makes a list
+pub flat-more : (f : ℕ → List ℕ) (k : ℕ) → flat f (upto (k + 1)) ≡ flat f (upto k) ++ f k
+flat-more f k = ap (flat f) (upto-more k) ∙ flat-append f (upto k) (k ∷ []) ∙ ap (λ (l : List ℕ). flat f (upto k) ++ l) (append-nil (f k))
+
+flat-from : (f : ℕ → List ℕ) (m a k : ℕ) → ((i : ℕ) → length (f i) ≡ m) → length (flat f (from a k)) ≡ m * k
+flat-from f m a zero h = omega arith
+flat-from f m a (suc k) h = length-append (f a) (flat f (from (suc a) k)) ∙ ap₂ (λ x y. x + y) (h a) (flat-from f m (suc a) k h) ∙ times m k
+  where
+    times : (m k : ℕ) → m + m * k ≡ m * suc k
+    times m k = omega arith
+
+pub flat-length : (f : ℕ → List ℕ) (m k : ℕ) → ((i : ℕ) → length (f i) ≡ m) → length (flat f (upto k)) ≡ m * k
+flat-length f m k h = flat-from f m 0 k h
+
+-- A LIST MAPPED over upto
+module _ {B : Type 0} where
+  pub length-map-upto : (f : ℕ → B) (n : ℕ) → length (map f (upto n)) ≡ n
+  length-map-upto f n = length-maps f (upto n) ∙ length-from 0 n
+
+  pub get-map-upto : (f : ℕ → B) (n k : ℕ) (d : B) → k < n → getD (map f (upto n)) k d ≡ f k
+  get-map-upto f n k d h = get-map f (upto n) k d 0 (rw length-from h) ∙ ap f (get-upto n k 0 h)
+
+  map-append : (f : ℕ → B) (l m : List ℕ) → map f (l ++ m) ≡ map f l ++ map f m
+  map-append f [] m = refl
+  map-append f (x ∷ l) m = ap (λ (r : List B). f x ∷ r) (map-append f l m)
+
+  pub map-more : (f : ℕ → B) (k : ℕ) → map f (upto (k + 1)) ≡ map f (upto k) ++ (f k ∷ [])
+  map-more f k = ap (map f) (upto-more k) ∙ map-append f (upto k) (k ∷ [])
+
+  -- a loop over its members that stops at the first failure
+  pub mapped-next : (p : B → Bool) (f : ℕ → B) (k : ℕ) → all p (map f (upto k)) ≡ true → p (f k) ≡ true → all p (map f (upto (k + 1))) ≡ true
+  mapped-next p f k e q = ap (all p) (map-more f k) ∙ all-append p (map f (upto k)) (f k ∷ []) ∙ and e (and q refl)
+
+  pub mapped-stop : (p : B → Bool) (f : ℕ → B) (n k : ℕ) → k < n → p (f k) ≡ false → all p (map f (upto n)) ≡ false
+  mapped-stop p f n k h e = all-map p f (upto n) ∙ upto-stop (λ j. p (f j)) n k h e
+
+-- A LOOP over a ≤ j < e that looks for one that passes
+module _ {A : Type 0} where
+  pub any-append : (p : A → Bool) (l m : List A) → any p (l ++ m) ≡ any p l || any p m
+  any-append p [] m = refl
+  any-append p (x ∷ l) m = ap (λ (t : Bool). p x || t) (any-append p l m) ∙ or-assoc (p x) (any p l) (any p m)
+    where
+      or-assoc : (x y z : Bool) → x || (y || z) ≡ (x || y) || z
+      or-assoc true y z = refl
+      or-assoc false y z = refl
+
+pub any-next : (p : ℕ → Bool) (a j : ℕ) → a ≤ j → any p (from a (j - a)) ≡ false → p j ≡ false → any p (from a (j + 1 - a)) ≡ false
+any-next p a j h e q =
+    let n : j + 1 - a ≡ (j - a) + 1 = omega arith in
+    let z : a + (j - a) ≡ j = omega arith in
+    ap (λ (m : ℕ). any p (from a m)) n ∙ ap (any p) (from-more a (j - a)) ∙ any-append p (from a (j - a)) ((a + (j - a)) ∷ []) ∙ rw (e, z, q)
+
+any-from-hit : (p : ℕ → Bool) (a n k : ℕ) → k < n → p (a + k) ≡ true → any p (from a n) ≡ true
+any-from-hit p a zero k h e = absurd (omega arith)
+any-from-hit p a (suc n) zero h e = let z : p a ≡ true = ap p (omega arith) ∙ e in rw z
+any-from-hit p a (suc n) (suc k) h e =
+    ap (λ (t : Bool). p a || t) (any-from-hit p (suc a) n k (omega arith) (ap p (omega arith) ∙ e)) ∙ or-true (p a)
+  where
+    or-true : (x : Bool) → x || true ≡ true
+    or-true true = refl
+    or-true false = refl
+
+pub any-hit : (p : ℕ → Bool) (a e j : ℕ) → a ≤ j → j < e → p j ≡ true → any p (from a (e - a)) ≡ true
+any-hit p a e j h g q = any-from-hit p a (e - a) (j - a) (omega arith) (ap p (omega arith) ∙ q)
+
+-- the same over a mapped list
+module _ {B : Type 0} (p : B → Bool) (f : ℕ → B) where
+  pub search-next : (k : ℕ) → any p (map f (upto k)) ≡ false → p (f k) ≡ false → any p (map f (upto (k + 1))) ≡ false
+  search-next k e q = ap (any p) (map-more f k) ∙ any-append p (map f (upto k)) (f k ∷ []) ∙ rw (e, q)
+
+  pub search-hit : (n k : ℕ) → k < n → p (f k) ≡ true → any p (map f (upto n)) ≡ true
+  search-hit n k h q = any-map p f (upto n) ∙ any-from-hit (λ j. p (f j)) 0 n k h (ap (λ (j : ℕ). p (f j)) (omega arith) ∙ q)
+
+-- A LOOP that goes on with what is left: the numbers from k to n
+pub from-head : (k n : ℕ) → k < n → from k (n - k) ≡ k ∷ from (k + 1) (n - (k + 1))
+from-head k n h =
+    let e : n - k ≡ suc (n - (k + 1)) = omega arith in
+    ap (from k) e ∙ ap (λ (j : ℕ). k ∷ from j (n - (k + 1))) (sym (add-one k))
+
+pub from-end : (k n : ℕ) → n ≤ k → from k (n - k) ≡ []
+from-end k n h = let e : n - k ≡ 0 = omega arith in ap (from k) e
