@@ -2,3 +2,4 @@ mod Shape
 pub mod Views
 mod SiteTests
 pub mod RuleTests
+mod RulePairs

@@ -16,7 +16,7 @@ use Rattle.definition.specs.Bytes.{rules-pass}
 use Rattle.laws.specs.Tests.{both, every-at}
 use Rattle.laws.specs.Answers.{and-true, every-stop}
 use Rattle.laws.specs.Turns.{length-map-upto, all-map, all-and, all-same, upto-at}
-use Rattle.checks.specs.Words.{pattern-words, CountsFit, rule-fine}
+use Rattle.checks.specs.Words.{pattern-words, CountsFit, Counted, rule-fine}
 use Rattle.checks.proofs.Views.{Narrow, signed-zero, sites-number}
 
 -- A PATTERN, kind by kind
@@ -70,8 +70,10 @@ rules-pass-is n S R t u =
     ∙ ap (λ (x : Bool). all (rule-tidy n u) (upto R) && x)
     (sym (all-map (rule-ok n S) (rule-at n u) (upto R)) ∙ ap (λ (m : ℕ). all (rule-ok n m) (map (rule-at n u) (upto R))) (sym (sites-number n S R t u)))
 
--- each rule of a table that passes has counts that fit
-pub counted : (n S R : ℕ) (t u : List ℕ) → rules-pass n S R t u ≡ true → (i : ℕ) → i < R → CountsFit n u i
+-- each rule of a table that passes is right, and has counts that fit
+pub rule-passes : (n S R : ℕ) (t u : List ℕ) → rules-pass n S R t u ≡ true → (i : ℕ) → i < R → rule-ok n S (rule-at n u i) ≡ true
 unfolding rule-fine
-counted n S R t u e i h =
-    counts-fit n S u i (both (rule-tidy n u i) (rule-ok n S (rule-at n u i)) (upto-at (rule-fine n S u) R i (rules-pass-is n S R t u ∙ e) h) .1)
+rule-passes n S R t u e i h = both (rule-tidy n u i) (rule-ok n S (rule-at n u i)) (upto-at (rule-fine n S u) R i (rules-pass-is n S R t u ∙ e) h) .1
+
+pub counted : (n S R : ℕ) (t u : List ℕ) → rules-pass n S R t u ≡ true → Counted n R u
+counted n S R t u e = record { each = λ i h. counts-fit n S u i (rule-passes n S R t u e i h) }

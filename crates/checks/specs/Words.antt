@@ -2,11 +2,11 @@
 use mathlib.Core.Bool.{Bool, _&&_, _||_, not}
 use mathlib.Core.List.{List, [], _∷_}
 use mathlib.Core.Path.{_≡_}
-use Prim.Native.Nat.{ℕ, _≤_}
+use Prim.Native.Nat.{ℕ, suc, _+_, _≤_, _<_}
 use Rattle.definition.specs.Lists.{_is_, _below_, _at-most_, _implies_, every, all, upto}
 use Rattle.definition.specs.Book.{pair-slots, impure-slots}
 use Rattle.definition.specs.Tables.{site-at, site-tidy, rule-word, rule-at, rule-tidy}
-use Rattle.definition.specs.Accept.{shape-ok, twins, smaller-than, rule-ok}
+use Rattle.definition.specs.Accept.{shape-ok, twins, smaller-than, rule-ok, agrees-with}
 
 -- REFUSAL 4: kind, source count, pattern kind, position and number of a site
 unfoldable pub shape-words : ℕ → ℕ → ℕ → ℕ → ℕ → Bool
@@ -48,6 +48,18 @@ pub record CountsFit (n : ℕ) (u : List ℕ) (i : ℕ) : Type 0 where
   pub pairs : rule-word n u i 4 ≤ pair-slots
   pub impure : rule-word n u i 5 ≤ impure-slots
 
+-- so they do for each of R rules: what refusal 5 leaves to know
+pub record Counted (n R : ℕ) (u : List ℕ) : Type 0 where
+  pub each : (i : ℕ) → i < R → CountsFit n u i
+
 -- rule i of the table, in a book of S sites
 unfoldable pub rule-fine : ℕ → ℕ → List ℕ → ℕ → Bool
 rule-fine n S u i = rule-tidy n u i && rule-ok n S (rule-at n u i)
+
+-- REFUSAL 6: every constraint of rule i agrees with every constraint of rule j
+unfoldable pub rules-agree : ℕ → List ℕ → ℕ → ℕ → Bool
+rules-agree n u i j = all (agrees-with (rule-at n u j .constraints)) (rule-at n u i .constraints)
+
+-- those of rule i agree with those of the rules up to it
+unfoldable pub agrees-so-far : ℕ → List ℕ → ℕ → Bool
+agrees-so-far n u i = all (rules-agree n u i) (upto (i + 1))

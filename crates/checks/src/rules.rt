@@ -56,8 +56,8 @@ fn constraints_ok(rules: &[u32], i: usize, count: usize, sites: u32) -> bool
     true
 }
 
-// One of the constraints `first` to `count` is on the site.
-fn constrained_from(rules: &[u32], i: usize, first: usize, count: usize, site: u32) -> bool
+// Internal: one of the constraints `first` to `count` is on the site.
+pub fn constrained_from(rules: &[u32], i: usize, first: usize, count: usize, site: u32) -> bool
     requires { ⌜ (rule-words slots * i + rule-words slots ≤ length (now rules)) × (first ≤ count) × (count ≤ slots) ⌝ }
     ensures { λ v. ⌜ v ≡ any (is-on site) (map (constraint-at slots (now (rules .entry)) i) (from first (count - first))) ⌝ }
 {

@@ -7,10 +7,13 @@ use Prim.Native.Nat.{ℕ, zero, suc, _+_, _-_, _*_, _≤_, _<_}
 use native.Mathlib.Omega.{arith}
 use native.Mathlib.Nat.{add-zero}
 use native.Mathlib.Numerals.{add-one}
+use lib.Dec.{ltb}
 use lib.ListN.{length, getD, length-append}
+use borrow.Author.Tests.{ltb-true, ltb-false}
 use Rattle.definition.specs.Lists.{from, upto, all, any, flat}
 use Rattle.laws.specs.Tests.{split, and, clash}
-use Rattle.laws.specs.Answers.{and-assoc, and-swap, and-false}
+use Rattle.laws.specs.Answers.{and-assoc, and-swap, and-false, same-test}
+use Rattle.laws.specs.Members.{all-from, from-bounds}
 
 -- RANGES
 pub from-next : (a n : ℕ) → from a (suc n) ≡ from a n ++ ((a + n) ∷ [])
@@ -191,3 +194,30 @@ from-head k n h =
 
 pub from-end : (k n : ℕ) → n ≤ k → from k (n - k) ≡ []
 from-end k n h = let e : n - k ≡ 0 = omega arith in ap (from k) e
+
+-- each number below n passes, so all do
+pub upto-all : (p : ℕ → Bool) (n : ℕ) → ((k : ℕ) → k < n → p k ≡ true) → all p (upto n) ≡ true
+upto-all p n h = all-from p (upto n) (λ k m. h k (omega (arith, from-bounds 0 n k m)))
+
+-- a test of two numbers that is mutual need be asked of each number and those up to it
+pub half-enough : (p : ℕ → ℕ → Bool) → ((i j : ℕ) → p i j ≡ true → p j i ≡ true) → (n : ℕ)
+    → all (λ i. all (p i) (upto (i + 1))) (upto n) ≡ all (λ i. all (p i) (upto n)) (upto n)
+half-enough p back n =
+    same-test _ _
+    (λ e. upto-all (λ i. all (p i) (upto n)) n (λ i h. upto-all (p i) n (λ j g. go i j (split (ltb j (i + 1)))
+    (λ q. upto-at (p i) (i + 1) j (upto-at (λ i. all (p i) (upto (i + 1))) n i e h) q)
+    (λ q. back j i (upto-at (p j) (j + 1) i (upto-at (λ i. all (p i) (upto (i + 1))) n j e g) q)))))
+    (λ e. upto-all (λ i. all (p i) (upto (i + 1))) n (λ i h. upto-all (p i) (i + 1) (λ j g. upto-at (p i) n j (upto-at (λ i. all (p i) (upto n)) n i e h) (omega arith))))
+  where
+    go : (i j : ℕ) → (ltb j (i + 1) ≡ true) ⊎ (ltb j (i + 1) ≡ false) → (j < i + 1 → p i j ≡ true) → (i < j + 1 → p i j ≡ true) → p i j ≡ true
+    go i j (inl q) f g = f (ltb-true j (i + 1) q)
+    go i j (inr q) f g = g (omega (arith, ltb-false j (i + 1) q))
+
+-- two loops, one inside the other, either way round
+pub all-swap : {A B : Type 0} (q : A → B → Bool) (l : List A) (m : List B) → all (λ x. all (q x) m) l ≡ all (λ y. all (λ x. q x y) l) m
+all-swap q [] m = sym (none m)
+  where
+    none : {B : Type 0} (m : List B) → all (λ y. true) m ≡ true
+    none [] = refl
+    none (y ∷ m) = none m
+all-swap q (x ∷ l) m = ap (λ (t : Bool). all (q x) m && t) (all-swap q l m) ∙ sym (all-and (q x) (λ y. all (λ x. q x y) l) m)
