@@ -3,3 +3,7 @@ pub mod Views
 mod SiteTests
 pub mod RuleTests
 mod RulePairs
+mod Marking
+mod Soundness
+mod Naming
+mod Visits

@@ -21,7 +21,7 @@ constrained-from-requires c κs = search needs
 
 returns : tie.Need-returns
 unfolding constrains rule-at
-returns c = let e : c .before .wide .result - 0 ≡ rule-word slots (c .before .before .before .before .args .rules .now) (c .before .before .before .before .args .i) 3 = omega (arith, (c .before .wide .ensures ∙ c .before .before .rule-word .ensures)) in c .constrained-from .ensures ∙ ap (λ (m : ℕ). any (is-on (c .before .before .before .before .args .site)) (map (constraint-at slots (c .before .before .before .before .args .rules .now) (c .before .before .before .before .args .i)) (upto m))) e
+returns c = let args = c .before .before .before .before .args in let e : c .before .wide .result - 0 ≡ rule-word slots (args .rules .now) (args .i) 3 = omega (arith, (c .before .wide .ensures ∙ c .before .before .rule-word .ensures)) in c .constrained-from .ensures ∙ ap (λ (m : ℕ). any (is-on (args .site)) (map (constraint-at slots (args .rules .now) (args .i)) (upto m))) e
 
 pub constrains-spec : {M : Type 1} → statement M
 constrains-spec =

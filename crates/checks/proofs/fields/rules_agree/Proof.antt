@@ -36,7 +36,7 @@ agrees-with-requires c κs = search needs
 
 returns : tie.Need-returns Inv-loop μ-loop
 unfolding rules-agree rule-at
-returns c = sym (mapped-stop (agrees-with (rule-at slots (c .before .before .before .before .before .before .before .args .rules .now) (c .before .before .before .before .before .before .before .args .j) .constraints)) (constraint-at slots (c .before .before .before .before .before .before .before .args .rules .now) (c .before .before .before .before .before .before .before .args .i)) (c .before .before .before .before .wide .result) (c .before .before .before .loop .k) (c .before .before .loop-test .taken) (sym (c .before .agrees-with .ensures) ∙ not-true _ (c .if1 .taken))) ∙ (ap (λ (n : ℕ). all (agrees-with (rule-at slots (c .before .before .before .before .before .before .before .args .rules .now) (c .before .before .before .before .before .before .before .args .j) .constraints)) (map (constraint-at slots (c .before .before .before .before .before .before .before .args .rules .now) (c .before .before .before .before .before .before .before .args .i)) (upto n))) (c .before .before .before .before .wide .ensures ∙ c .before .before .before .before .before .rule-word .ensures))
+returns c = let args = c .before .before .before .before .before .before .before .args in sym (mapped-stop (agrees-with (rule-at slots (args .rules .now) (args .j) .constraints)) (constraint-at slots (args .rules .now) (args .i)) (c .before .before .before .before .wide .result) (c .before .before .before .loop .k) (c .before .before .loop-test .taken) (sym (c .before .agrees-with .ensures) ∙ not-true _ (c .if1 .taken))) ∙ (ap (λ (n : ℕ). all (agrees-with (rule-at slots (args .rules .now) (args .j) .constraints)) (map (constraint-at slots (args .rules .now) (args .i)) (upto n))) (c .before .before .before .before .wide .ensures ∙ c .before .before .before .before .before .rule-word .ensures))
 
 add-k : tie.Need-add-k Inv-loop μ-loop
 add-k c = search needs
@@ -45,11 +45,11 @@ loop-less : tie.Need-loop-less Inv-loop μ-loop
 loop-less c = search needs
 
 loop-again : tie.Need-loop-again Inv-loop μ-loop
-loop-again c = (search needs, mapped-next (agrees-with (rule-at slots (c .before .before .before .before .before .before .before .args .rules .now) (c .before .before .before .before .before .before .before .args .j) .constraints)) (constraint-at slots (c .before .before .before .before .before .before .before .args .rules .now) (c .before .before .before .before .before .before .before .args .i)) (c .before .before .before .loop .k) (c .before .before .before .loop .inv .1) (sym (c .before .agrees-with .ensures) ∙ not-false _ (c .if1 .left)))
+loop-again c = let args = c .before .before .before .before .before .before .before .args in let loop = c .before .before .before .loop in (search needs, mapped-next (agrees-with (rule-at slots (args .rules .now) (args .j) .constraints)) (constraint-at slots (args .rules .now) (args .i)) (loop .k) (loop .inv .1) (sym (c .before .agrees-with .ensures) ∙ not-false _ (c .if1 .left)))
 
 returns-2 : tie.Need-returns-2 Inv-loop μ-loop
 unfolding rules-agree rule-at
-returns-2 c = let e : c .before .loop .k ≡ c .before .before .wide .result = omega arith in sym (c .before .loop .inv .1) ∙ ap (λ (n : ℕ). all (agrees-with (rule-at slots (c .before .before .before .before .before .args .rules .now) (c .before .before .before .before .before .args .j) .constraints)) (map (constraint-at slots (c .before .before .before .before .before .args .rules .now) (c .before .before .before .before .before .args .i)) (upto n))) e ∙ (ap (λ (n : ℕ). all (agrees-with (rule-at slots (c .before .before .before .before .before .args .rules .now) (c .before .before .before .before .before .args .j) .constraints)) (map (constraint-at slots (c .before .before .before .before .before .args .rules .now) (c .before .before .before .before .before .args .i)) (upto n))) (c .before .before .wide .ensures ∙ c .before .before .before .rule-word .ensures))
+returns-2 c = let args = c .before .before .before .before .before .args in let loop = c .before .loop in let e : loop .k ≡ c .before .before .wide .result = omega arith in sym (loop .inv .1) ∙ ap (λ (n : ℕ). all (agrees-with (rule-at slots (args .rules .now) (args .j) .constraints)) (map (constraint-at slots (args .rules .now) (args .i)) (upto n))) e ∙ (ap (λ (n : ℕ). all (agrees-with (rule-at slots (args .rules .now) (args .j) .constraints)) (map (constraint-at slots (args .rules .now) (args .i)) (upto n))) (c .before .before .wide .ensures ∙ c .before .before .before .rule-word .ensures))
 
 pub rules-agree-spec : {M : Type 1} → statement M
 rules-agree-spec =

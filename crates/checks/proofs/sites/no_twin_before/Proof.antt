@@ -25,7 +25,7 @@ twins-requires c κs = search needs
 
 returns : tie.Need-returns Inv-loop μ-loop
 unfolding twinless
-returns c = sym (upto-stop (twinless (c .before .before .before .before .before .args .sites .now) (c .before .before .before .before .before .args .s)) (c .before .before .before .before .before .args .s) (c .before .before .before .loop .r) (c .before .before .loop-test .taken) (ap not (sym (c .before .twins .ensures) ∙ c .if1 .taken)))
+returns c = let args = c .before .before .before .before .before .args in sym (upto-stop (twinless (args .sites .now) (args .s)) (args .s) (c .before .before .before .loop .r) (c .before .before .loop-test .taken) (ap not (sym (c .before .twins .ensures) ∙ c .if1 .taken)))
 
 add-r : tie.Need-add-r Inv-loop μ-loop
 add-r c = search needs
@@ -35,10 +35,10 @@ loop-less c = search needs
 
 loop-again : tie.Need-loop-again Inv-loop μ-loop
 unfolding twinless
-loop-again c = (search needs, upto-next (twinless (c .before .before .before .before .before .args .sites .now) (c .before .before .before .before .before .args .s)) (c .before .before .before .loop .r) (c .before .before .before .loop .inv .1) (ap not (sym (c .before .twins .ensures) ∙ c .if1 .left)))
+loop-again c = let args = c .before .before .before .before .before .args in let loop = c .before .before .before .loop in (search needs, upto-next (twinless (args .sites .now) (args .s)) (loop .r) (loop .inv .1) (ap not (sym (c .before .twins .ensures) ∙ c .if1 .left)))
 
 returns-2 : tie.Need-returns-2 Inv-loop μ-loop
-returns-2 c = let e : c .before .loop .r ≡ c .before .before .before .args .s = omega arith in sym (c .before .loop .inv .1) ∙ ap (λ (n : ℕ). all (twinless (c .before .before .before .args .sites .now) (c .before .before .before .args .s)) (upto n)) e
+returns-2 c = let args = c .before .before .before .args in let loop = c .before .loop in let e : loop .r ≡ args .s = omega arith in sym (loop .inv .1) ∙ ap (λ (n : ℕ). all (twinless (args .sites .now) (args .s)) (upto n)) e
 
 pub no-twin-before-spec : {M : Type 1} → statement M
 no-twin-before-spec =

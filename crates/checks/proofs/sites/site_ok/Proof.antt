@@ -35,17 +35,17 @@ shape-ok-requires c κs = search needs
 
 returns : tie.Need-returns
 unfolding site-fine
-returns c = sym (every-stop _ 0 ((shape-is (c .before .before .before .before .before .before .before .before .args .sites .now) (λ k. c .before .before .before .before .before .before .before .shared-slice-known .given k .fits) (c .before .before .before .before .before .before .before .before .args .s) ∙ (let q : shape-words (site-word (c .before .before .before .before .before .before .before .before .args .sites .now) (c .before .before .before .before .before .before .before .before .args .s) 0) (site-word (c .before .before .before .before .before .before .before .before .args .sites .now) (c .before .before .before .before .before .before .before .before .args .s) 1) (site-word (c .before .before .before .before .before .before .before .before .args .sites .now) (c .before .before .before .before .before .before .before .before .args .s) 3) (site-word (c .before .before .before .before .before .before .before .before .args .sites .now) (c .before .before .before .before .before .before .before .before .args .s) 4) (site-word (c .before .before .before .before .before .before .before .before .args .sites .now) (c .before .before .before .before .before .before .before .before .args .s) 5) ≡ c .before .shape-ok .result = cc in q)) ∙ not-true _ (c .if1 .taken)))
+returns c = let args = c .before .before .before .before .before .before .before .before .args in sym (every-stop _ 0 ((shape-is (args .sites .now) (λ k. c .before .before .before .before .before .before .before .shared-slice-known .given k .fits) (args .s) ∙ (let q : shape-words (site-word (args .sites .now) (args .s) 0) (site-word (args .sites .now) (args .s) 1) (site-word (args .sites .now) (args .s) 3) (site-word (args .sites .now) (args .s) 4) (site-word (args .sites .now) (args .s) 5) ≡ c .before .shape-ok .result = cc in q)) ∙ not-true _ (c .if1 .taken)))
 
 wide-requires : tie.Need-wide-requires
 wide-requires c κs = search needs
 
 sources-smaller-requires : tie.Need-sources-smaller-requires
-sources-smaller-requires c κs = let f = (shape-count (site-word (c .before .before .before .before .before .before .before .before .before .args .sites .now) (c .before .before .before .before .before .before .before .before .before .args .s) 0) (site-word (c .before .before .before .before .before .before .before .before .before .args .sites .now) (c .before .before .before .before .before .before .before .before .before .args .s) 1) (site-word (c .before .before .before .before .before .before .before .before .before .args .sites .now) (c .before .before .before .before .before .before .before .before .before .args .s) 3) (site-word (c .before .before .before .before .before .before .before .before .before .args .sites .now) (c .before .before .before .before .before .before .before .before .before .args .s) 4) (site-word (c .before .before .before .before .before .before .before .before .before .args .sites .now) (c .before .before .before .before .before .before .before .before .before .args .s) 5) ((let q : shape-words (site-word (c .before .before .before .before .before .before .before .before .before .args .sites .now) (c .before .before .before .before .before .before .before .before .before .args .s) 0) (site-word (c .before .before .before .before .before .before .before .before .before .args .sites .now) (c .before .before .before .before .before .before .before .before .before .args .s) 1) (site-word (c .before .before .before .before .before .before .before .before .before .args .sites .now) (c .before .before .before .before .before .before .before .before .before .args .s) 3) (site-word (c .before .before .before .before .before .before .before .before .before .args .sites .now) (c .before .before .before .before .before .before .before .before .before .args .s) 4) (site-word (c .before .before .before .before .before .before .before .before .before .args .sites .now) (c .before .before .before .before .before .before .before .before .before .args .s) 5) ≡ c .before .before .shape-ok .result = cc in q) ∙ not-false _ (c .before .if1 .left))) in omega arith
+sources-smaller-requires c κs = let args = c .before .before .before .before .before .before .before .before .before .args in let f = (shape-count (site-word (args .sites .now) (args .s) 0) (site-word (args .sites .now) (args .s) 1) (site-word (args .sites .now) (args .s) 3) (site-word (args .sites .now) (args .s) 4) (site-word (args .sites .now) (args .s) 5) ((let q : shape-words (site-word (args .sites .now) (args .s) 0) (site-word (args .sites .now) (args .s) 1) (site-word (args .sites .now) (args .s) 3) (site-word (args .sites .now) (args .s) 4) (site-word (args .sites .now) (args .s) 5) ≡ c .before .before .shape-ok .result = cc in q) ∙ not-false _ (c .before .if1 .left))) in omega arith
 
 returns-2 : tie.Need-returns-2
 unfolding site-fine site-at
-returns-2 c = sym (every-stop _ 1 ((ap (λ (n : ℕ). all (smaller-than (c .before .before .before .before .before .before .before .before .before .before .before .args .s)) (map (source-at (c .before .before .before .before .before .before .before .before .before .before .before .args .sites .now) (c .before .before .before .before .before .before .before .before .before .before .before .args .s)) (upto n))) (sym (c .before .before .before .before .before .before .before .before .before .site-word .ensures) ∙ sym (c .before .before .wide .ensures)) ∙ sym (c .before .sources-smaller .ensures)) ∙ not-true _ (c .if2 .taken)))
+returns-2 c = let args = c .before .before .before .before .before .before .before .before .before .before .before .args in sym (every-stop _ 1 ((ap (λ (n : ℕ). all (smaller-than (args .s)) (map (source-at (args .sites .now) (args .s)) (upto n))) (sym (c .before .before .before .before .before .before .before .before .before .site-word .ensures) ∙ sym (c .before .before .wide .ensures)) ∙ sym (c .before .sources-smaller .ensures)) ∙ not-true _ (c .if2 .taken)))
 
 no-twin-before-requires : tie.Need-no-twin-before-requires
 no-twin-before-requires c κs = search needs
@@ -55,11 +55,11 @@ unfolding site-fine
 returns-3 c = sym (every-stop _ 2 (sym (c .before .no-twin-before .ensures) ∙ not-true _ (c .if3 .taken)))
 
 tidy-requires : tie.Need-tidy-requires
-tidy-requires c κs = let f = (shape-count (site-word (c .before .before .before .before .before .before .before .before .before .before .before .before .before .args .sites .now) (c .before .before .before .before .before .before .before .before .before .before .before .before .before .args .s) 0) (site-word (c .before .before .before .before .before .before .before .before .before .before .before .before .before .args .sites .now) (c .before .before .before .before .before .before .before .before .before .before .before .before .before .args .s) 1) (site-word (c .before .before .before .before .before .before .before .before .before .before .before .before .before .args .sites .now) (c .before .before .before .before .before .before .before .before .before .before .before .before .before .args .s) 3) (site-word (c .before .before .before .before .before .before .before .before .before .before .before .before .before .args .sites .now) (c .before .before .before .before .before .before .before .before .before .before .before .before .before .args .s) 4) (site-word (c .before .before .before .before .before .before .before .before .before .before .before .before .before .args .sites .now) (c .before .before .before .before .before .before .before .before .before .before .before .before .before .args .s) 5) ((let q : shape-words (site-word (c .before .before .before .before .before .before .before .before .before .before .before .before .before .args .sites .now) (c .before .before .before .before .before .before .before .before .before .before .before .before .before .args .s) 0) (site-word (c .before .before .before .before .before .before .before .before .before .before .before .before .before .args .sites .now) (c .before .before .before .before .before .before .before .before .before .before .before .before .before .args .s) 1) (site-word (c .before .before .before .before .before .before .before .before .before .before .before .before .before .args .sites .now) (c .before .before .before .before .before .before .before .before .before .before .before .before .before .args .s) 3) (site-word (c .before .before .before .before .before .before .before .before .before .before .before .before .before .args .sites .now) (c .before .before .before .before .before .before .before .before .before .before .before .before .before .args .s) 4) (site-word (c .before .before .before .before .before .before .before .before .before .before .before .before .before .args .sites .now) (c .before .before .before .before .before .before .before .before .before .before .before .before .before .args .s) 5) ≡ c .before .before .before .before .before .before .shape-ok .result = cc in q) ∙ not-false _ (c .before .before .before .before .before .if1 .left))) in omega arith
+tidy-requires c κs = let args = c .before .before .before .before .before .before .before .before .before .before .before .before .before .args in let f = (shape-count (site-word (args .sites .now) (args .s) 0) (site-word (args .sites .now) (args .s) 1) (site-word (args .sites .now) (args .s) 3) (site-word (args .sites .now) (args .s) 4) (site-word (args .sites .now) (args .s) 5) ((let q : shape-words (site-word (args .sites .now) (args .s) 0) (site-word (args .sites .now) (args .s) 1) (site-word (args .sites .now) (args .s) 3) (site-word (args .sites .now) (args .s) 4) (site-word (args .sites .now) (args .s) 5) ≡ c .before .before .before .before .before .before .shape-ok .result = cc in q) ∙ not-false _ (c .before .before .before .before .before .if1 .left))) in omega arith
 
 returns-4 : tie.Need-returns-4
 unfolding site-fine site-at
-returns-4 c = sym (every-rest _ ((shape-is (c .before .before .before .before .before .before .before .before .before .before .before .before .before .before .args .sites .now) (λ k. c .before .before .before .before .before .before .before .before .before .before .before .before .before .shared-slice-known .given k .fits) (c .before .before .before .before .before .before .before .before .before .before .before .before .before .before .args .s) ∙ (let q : shape-words (site-word (c .before .before .before .before .before .before .before .before .before .before .before .before .before .before .args .sites .now) (c .before .before .before .before .before .before .before .before .before .before .before .before .before .before .args .s) 0) (site-word (c .before .before .before .before .before .before .before .before .before .before .before .before .before .before .args .sites .now) (c .before .before .before .before .before .before .before .before .before .before .before .before .before .before .args .s) 1) (site-word (c .before .before .before .before .before .before .before .before .before .before .before .before .before .before .args .sites .now) (c .before .before .before .before .before .before .before .before .before .before .before .before .before .before .args .s) 3) (site-word (c .before .before .before .before .before .before .before .before .before .before .before .before .before .before .args .sites .now) (c .before .before .before .before .before .before .before .before .before .before .before .before .before .before .args .s) 4) (site-word (c .before .before .before .before .before .before .before .before .before .before .before .before .before .before .args .sites .now) (c .before .before .before .before .before .before .before .before .before .before .before .before .before .before .args .s) 5) ≡ c .before .before .before .before .before .before .before .shape-ok .result = cc in q)) ∙ not-false _ (c .before .before .before .before .before .before .if1 .left)) (every-rest _ ((ap (λ (n : ℕ). all (smaller-than (c .before .before .before .before .before .before .before .before .before .before .before .before .before .before .args .s)) (map (source-at (c .before .before .before .before .before .before .before .before .before .before .before .before .before .before .args .sites .now) (c .before .before .before .before .before .before .before .before .before .before .before .before .before .before .args .s)) (upto n))) (sym (c .before .before .before .before .before .before .before .before .before .before .before .before .site-word .ensures) ∙ sym (c .before .before .before .before .before .wide .ensures)) ∙ sym (c .before .before .before .before .sources-smaller .ensures)) ∙ not-false _ (c .before .before .before .if2 .left)) (every-rest _ (sym (c .before .before .no-twin-before .ensures) ∙ not-false _ (c .before .if3 .left)) (every-one _ ∙ sym (c .tidy .ensures)))))
+returns-4 c = let args = c .before .before .before .before .before .before .before .before .before .before .before .before .before .before .args in sym (every-rest _ ((shape-is (args .sites .now) (λ k. c .before .before .before .before .before .before .before .before .before .before .before .before .before .shared-slice-known .given k .fits) (args .s) ∙ (let q : shape-words (site-word (args .sites .now) (args .s) 0) (site-word (args .sites .now) (args .s) 1) (site-word (args .sites .now) (args .s) 3) (site-word (args .sites .now) (args .s) 4) (site-word (args .sites .now) (args .s) 5) ≡ c .before .before .before .before .before .before .before .shape-ok .result = cc in q)) ∙ not-false _ (c .before .before .before .before .before .before .if1 .left)) (every-rest _ ((ap (λ (n : ℕ). all (smaller-than (args .s)) (map (source-at (args .sites .now) (args .s)) (upto n))) (sym (c .before .before .before .before .before .before .before .before .before .before .before .before .site-word .ensures) ∙ sym (c .before .before .before .before .before .wide .ensures)) ∙ sym (c .before .before .before .before .sources-smaller .ensures)) ∙ not-false _ (c .before .before .before .if2 .left)) (every-rest _ (sym (c .before .before .no-twin-before .ensures) ∙ not-false _ (c .before .if3 .left)) (every-one _ ∙ sym (c .tidy .ensures)))))
 
 pub site-ok-spec : {M : Type 1} → statement M
 site-ok-spec =

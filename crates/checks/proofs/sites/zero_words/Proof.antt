@@ -31,7 +31,7 @@ shared-slice-read-if1 c = search needs
 
 returns : tie.Need-returns Inv-loop μ-loop
 unfolding is-zero
-returns c = sym (from-stop (is-zero (c .before .before .before .before .args .words .now)) (c .before .before .before .before .args .at) (c .before .before .before .before .args .n) (c .before .before .before .loop .k) (omega arith) (ne-eqb _ _ (c .if1 .taken)))
+returns c = let args = c .before .before .before .before .args in sym (from-stop (is-zero (args .words .now)) (args .at) (args .n) (c .before .before .before .loop .k) (omega arith) (ne-eqb _ _ (c .if1 .taken)))
 
 add-k : tie.Need-add-k Inv-loop μ-loop
 add-k c = search needs
@@ -41,10 +41,10 @@ loop-less c = search needs
 
 loop-again : tie.Need-loop-again Inv-loop μ-loop
 unfolding is-zero
-loop-again c = (search needs, from-one (is-zero (c .before .before .before .before .args .words .now)) (c .before .before .before .before .args .at) (c .before .before .before .loop .k) (c .before .before .before .loop .inv .1) (eq-eqb _ _ (c .if1 .left)))
+loop-again c = let args = c .before .before .before .before .args in let loop = c .before .before .before .loop in (search needs, from-one (is-zero (args .words .now)) (args .at) (loop .k) (loop .inv .1) (eq-eqb _ _ (c .if1 .left)))
 
 returns-2 : tie.Need-returns-2 Inv-loop μ-loop
-returns-2 c = let e : c .before .loop .k ≡ c .before .before .args .n = omega arith in sym (c .before .loop .inv .1) ∙ ap (zero-from (c .before .before .args .words .now) (c .before .before .args .at)) e
+returns-2 c = let args = c .before .before .args in let loop = c .before .loop in let e : loop .k ≡ args .n = omega arith in sym (loop .inv .1) ∙ ap (zero-from (args .words .now) (args .at)) e
 
 pub zero-words-spec : {M : Type 1} → statement M
 zero-words-spec =
