@@ -7,3 +7,4 @@ pub mod Orders
 pub mod Champions
 pub mod Totals
 pub mod Turns
+pub mod Stores

@@ -1,0 +1,3 @@
+mod Framing
+mod Recording
+mod Replies
