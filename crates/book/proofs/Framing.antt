@@ -1,13 +1,13 @@
 -- The frame of a block by its kind, and refusal 3 test by test.
 use Prim.Native.Nat.{ℕ, _≤_, _<_, _-_, _+_, _*_, _/_, _%_, min}
-use mathlib.Core.Path.{_≡_, refl, _∙_}
+use mathlib.Core.Path.{_≡_, _∙_}
 use mathlib.Core.Bool.{true, false}
-use mathlib.Core.List.{List, [], _∷_}
+use mathlib.Core.List.{List}
 use native.Mathlib.Omega.{arith}
 use lib.Dec.{eqb, ltb}
 use lib.ListN.{length}
 use borrow.Author.Tests.{eqb-true, ltb-true, eq-eqb, ne-eqb, le-leb, lt-leb, leb-true}
-use Rattle.definition.specs.Lists.{all, upto, every}
+use Rattle.definition.specs.Lists.{all, upto}
 use Rattle.definition.specs.Book.{most, slots}
 use Rattle.definition.specs.Bytes.{le16, length-ok, frame, frame-ok, frames-ok, block-count, blocks-wanted, blocks-for, rules-a-block, rule-bytes}
 use Rattle.laws.specs.Tests.{both, every-at}

@@ -5,13 +5,13 @@ mod records;
 
 ghost use mathlib.Core.Path.{_≡_};
 ghost use mathlib.Core.Bool.{_&&_};
-ghost use mathlib.Core.List.{List, [], _∷_};
+ghost use mathlib.Core.List.{List};
 ghost use Prim.Native.Nat.{ℕ, _+_, _*_, _/_, _≤_};
 ghost use lib.ListN.{length, take};
 ghost use Rattle.definition.specs.Book.{most, slots};
-ghost use Rattle.definition.specs.Tables.{site-words, rule-words, book-of};
-ghost use Rattle.definition.specs.Accept.{lowest, book-tests};
-ghost use Rattle.definition.specs.Bytes.{site-table, rule-table, site-gaps, rule-gaps, sites-pass, rules-pass};
+ghost use Rattle.definition.specs.Tables.{site-words, rule-words};
+ghost use Rattle.definition.specs.Accept.{lowest};
+ghost use Rattle.definition.specs.Bytes.{site-gaps, rule-gaps, sites-pass, rules-pass};
 ghost use Rattle.book.specs.Shapes.{blocks-in, record-tests};
 ghost use Rattle.book.specs.Reply.{Decoded};
 

@@ -1,5 +1,5 @@
 -- Laws of marks: none, one more, a run of them, and the step from a site to those below it.
-use Prim.Native.Nat.{ℕ, zero, suc, _+_, _*_, _≤_, _<_}
+use Prim.Native.Nat.{ℕ, zero, suc, _+_, _≤_, _<_}
 use mathlib.Core.Path.{_≡_, refl, sym, ap, _∙_, subst}
 use mathlib.Core.Bool.{Bool, true, false, _&&_}
 use mathlib.Core.List.{List, [], _∷_, _++_, map}
@@ -12,7 +12,7 @@ use Rattle.definition.specs.Tables.{word-at}
 use Rattle.laws.specs.Tests.{and, both}
 use Rattle.laws.specs.Answers.{and-true, and-assoc, same-test}
 use Rattle.laws.specs.Turns.{all-append, upto-more, map-more, upto-at, upto-all}
-use Rattle.checks.specs.Marks.{good-if-marked, pending, stepped, Marked}
+use Rattle.checks.specs.Marks.{good-if-marked, pending, Marked}
 
 implies-true : (x : Bool) → (x implies true) ≡ true
 implies-true true = refl

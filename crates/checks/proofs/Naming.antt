@@ -1,14 +1,14 @@
 -- The sites that a rule names, as runs of words of the rule table.
-use Prim.Native.Nat.{ℕ, _+_, _*_, _≤_, _<_}
+use Prim.Native.Nat.{ℕ, _+_, _*_, _<_}
 use mathlib.Core.Path.{_≡_, refl, sym, ap, ap₂, _∙_}
 use mathlib.Core.Bool.{Bool, true, false, _&&_, not}
 use mathlib.Core.List.{List, [], _∷_, _++_, map}
 use native.Mathlib.Omega.{arith}
 use borrow.Author.Tests.{ltb-true}
 use Rattle.definition.specs.Lists.{_is_, _below_, all, flat, upto}
-use Rattle.definition.specs.Book.{slots, Constraint, Pair}
+use Rattle.definition.specs.Book.{slots}
 use Rattle.definition.specs.Tables.{word-at, rule-words, rule-word, constraint-start, pair-start, impure-start, constraint-at, pair-at, impure-at, rule-at}
-use Rattle.definition.specs.Accept.{smaller-than, pattern-ok, constraint-ok, pair-ok, rule-ok, site-of, ends, named}
+use Rattle.definition.specs.Accept.{smaller-than, constraint-ok, pair-ok, rule-ok, site-of, ends, named}
 use Rattle.laws.specs.Tests.{both, every-at}
 use Rattle.laws.specs.Answers.{and-true, and-assoc}
 use Rattle.laws.specs.Turns.{upto-at, all-append, all-and, all-map, all-same, all-flat}

@@ -1,16 +1,15 @@
 -- Refusals 6 and 7 of a rule table, rule by rule.
-use Prim.Native.Nat.{ℕ, suc, _+_, _*_, _≤_, _<_, _^_}
-use mathlib.Core.Path.{_≡_, refl, sym, ap, ap₂, _∙_}
+use Prim.Native.Nat.{ℕ, _+_, _*_}
+use mathlib.Core.Path.{_≡_, sym, ap, _∙_}
 use mathlib.Core.Logic.{_⊎_, inl, inr}
 use mathlib.Core.Bool.{Bool, true, false, _&&_}
-use mathlib.Core.List.{List, [], _∷_, map}
-use native.Mathlib.Omega.{arith}
+use mathlib.Core.List.{List, map}
 use lib.IntN.{ℤ}
 use lib.Dec.{eqb}
-use borrow.Author.Tests.{eqb-true, eq-eqb, ne-eqb}
+use borrow.Author.Tests.{eqb-true, eq-eqb}
 use Rattle.definition.specs.Lists.{_is_, _implies_, same-number, all, flat, upto}
-use Rattle.definition.specs.Book.{Constraint, Rule}
-use Rattle.definition.specs.Tables.{word-at, rule-words, rule-word, constraint-start, constraint-at, rule-at, book-of}
+use Rattle.definition.specs.Book.{Constraint}
+use Rattle.definition.specs.Tables.{rule-words, rule-word, constraint-start, constraint-at, rule-at, book-of}
 use Rattle.definition.specs.Accept.{fields-agree, constraints-of, agrees-with, fields-ok, apart, apart-ok}
 use Rattle.laws.specs.Turns.{all-map, all-same, all-flat, all-swap, half-enough}
 use Rattle.laws.specs.Orders.{same-number-equal, same-number-self}

@@ -1,21 +1,19 @@
 -- Refusal 5 in words is refusal 5.
-use Prim.Native.Nat.{ℕ, _+_, _*_, _≤_, _<_, _^_}
-use mathlib.Core.Path.{_≡_, refl, sym, ap, _∙_}
+use Prim.Native.Nat.{ℕ, _+_, _*_, _<_}
+use mathlib.Core.Path.{_≡_, sym, ap, _∙_}
 use mathlib.Core.Bool.{Bool, true, false, _&&_}
 use mathlib.Core.List.{List, [], _∷_, map}
 use native.Mathlib.Omega.{arith}
-use lib.IntN.{pos}
 use lib.Dec.{eqb, leb}
-use lib.ListN.{length}
-use borrow.Author.Tests.{eq-eqb, ne-eqb, lt-ltb, le-leb, lt-leb, leb-true}
-use Rattle.definition.specs.Lists.{_is_, _below_, _at-most_, every, all, upto}
-use Rattle.definition.specs.Book.{slots, pair-slots, impure-slots}
-use Rattle.definition.specs.Tables.{word-at, signed, rule-words, rule-word, constraint-start, constraint-at, pair-at, impure-at, rule-at, rule-tidy, book-of}
+use borrow.Author.Tests.{ne-eqb, lt-ltb, le-leb, lt-leb, leb-true}
+use Rattle.definition.specs.Lists.{_below_, _at-most_, every, all, upto}
+use Rattle.definition.specs.Book.{pair-slots, impure-slots}
+use Rattle.definition.specs.Tables.{rule-words, rule-word, constraint-start, constraint-at, pair-at, impure-at, rule-at, rule-tidy, book-of}
 use Rattle.definition.specs.Accept.{pattern-ok, constraint-ok, pair-ok, smaller-than, once, rule-ok, rules-ok}
 use Rattle.definition.specs.Bytes.{rules-pass}
 use Rattle.laws.specs.Tests.{both, every-at}
 use Rattle.laws.specs.Answers.{and-true, every-stop}
-use Rattle.laws.specs.Turns.{length-map-upto, all-map, all-and, all-same, upto-at}
+use Rattle.laws.specs.Turns.{length-map-upto, all-map, all-and, upto-at}
 use Rattle.checks.specs.Words.{pattern-words, CountsFit, Counted, rule-fine}
 use Rattle.checks.proofs.Views.{Narrow, signed-zero, sites-number}
 

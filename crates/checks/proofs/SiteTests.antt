@@ -1,5 +1,5 @@
 -- Refusal 4 in words is refusal 4.
-use Prim.Native.Nat.{ℕ, _+_, _*_, _<_, _^_}
+use Prim.Native.Nat.{ℕ, _+_, _*_, _<_}
 use mathlib.Core.Path.{_≡_, refl, sym, ap, ap₂, _∙_}
 use mathlib.Core.Logic.{_⊎_, inl, inr}
 use mathlib.Core.Bool.{Bool, true, false, _&&_, _||_, not}
@@ -11,11 +11,11 @@ use lib.ListN.{length, getD}
 use borrow.Author.Tests.{eq-eqb, ne-eqb}
 use Rattle.definition.specs.Lists.{_is_, _below_, _at-most_, _implies_, every, same-number, upto, all}
 use Rattle.definition.specs.Book.{Site, site}
-use Rattle.definition.specs.Tables.{word-at, signed, site-words, site-word, site-at, site-tidy, book-of}
+use Rattle.definition.specs.Tables.{site-words, site-word, site-at, site-tidy, book-of}
 use Rattle.definition.specs.Accept.{shape-ok, twins, smaller-than, no-twin, site-ok, sites-ok}
 use Rattle.definition.specs.Bytes.{sites-pass}
 use Rattle.laws.specs.Tests.{split}
-use Rattle.laws.specs.Answers.{and-true, and-false, every-stop, every-rest}
+use Rattle.laws.specs.Answers.{and-false, every-stop, every-rest}
 use Rattle.laws.specs.Turns.{all-and, upto-same}
 use Rattle.checks.specs.Words.{shape-words, twinless, site-fine}
 use Rattle.checks.proofs.Views.{Narrow, signed-same, signed-zero, source-count, site-pattern, site-position, site-number, sites-number, site-is}

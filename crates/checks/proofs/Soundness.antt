@@ -1,14 +1,14 @@
 -- Refusal 8's recursion without its fuel, and what tables that pass 4 and 5 leave to know.
-use Prim.Native.Nat.{ℕ, zero, suc, _+_, _*_, _≤_, _<_, _^_}
-use mathlib.Core.Path.{_≡_, refl, sym, ap, ap₂, _∙_, subst}
-use mathlib.Core.Bool.{Bool, true, false, _&&_}
+use Prim.Native.Nat.{ℕ, zero, suc, _+_, _*_, _<_}
+use mathlib.Core.Path.{_≡_, refl, sym, ap, ap₂, _∙_}
+use mathlib.Core.Bool.{Bool, true, _&&_}
 use mathlib.Core.List.{List, [], _∷_, map}
 use native.Mathlib.Omega.{arith}
-use lib.Dec.{eqb, ltb}
+use lib.Dec.{ltb}
 use borrow.Author.Tests.{eq-eqb, eqb-true, ltb-true, lt-ltb}
 use Rattle.definition.specs.Lists.{_is_, _below_, _implies_, every, all, upto}
 use Rattle.definition.specs.Book.{Book, Rule, Site, site}
-use Rattle.definition.specs.Tables.{signed, site-words, site-word, source-at, site-at, rule-words, rule-word, constraint-start, constraint-at, rule-at, book-of}
+use Rattle.definition.specs.Tables.{site-words, site-word, source-at, site-at, rule-words, rule-word, constraint-start, constraint-at, rule-at, book-of}
 use Rattle.definition.specs.Accept.{smaller-than, grants, granted, sound-below, sound-from, sound, sound-ok}
 use Rattle.definition.specs.Bytes.{sites-pass}
 use Rattle.laws.specs.Tests.{both, implied, every-at}

@@ -1,7 +1,7 @@
 -- Sites still to be judged, as marks in an array: what refusal 8's walk down the sites keeps.
 use mathlib.Core.Path.{_≡_}
 use mathlib.Core.Bool.{Bool, _&&_}
-use mathlib.Core.List.{List, map}
+use mathlib.Core.List.{List}
 use Prim.Native.Nat.{ℕ, _+_, _*_, _≤_, _<_}
 use lib.ListN.{length}
 use Rattle.definition.specs.Lists.{_is_, _implies_, all, upto}

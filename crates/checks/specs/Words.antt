@@ -1,8 +1,7 @@
 -- What the tests of one site and of one rule come to, said of the tables: what the private contracts of `checks` cite.
 use mathlib.Core.Bool.{Bool, _&&_, _||_, not}
 use mathlib.Core.List.{List, [], _∷_}
-use mathlib.Core.Path.{_≡_}
-use Prim.Native.Nat.{ℕ, suc, _+_, _≤_, _<_}
+use Prim.Native.Nat.{ℕ, _+_, _≤_, _<_}
 use Rattle.definition.specs.Lists.{_is_, _below_, _at-most_, _implies_, every, all, upto}
 use Rattle.definition.specs.Book.{pair-slots, impure-slots}
 use Rattle.definition.specs.Tables.{site-at, site-tidy, rule-word, rule-at, rule-tidy}

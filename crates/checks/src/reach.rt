@@ -1,8 +1,8 @@
 // Refusal 8: a rule reaches a kind 7 site that it does not grant. The sites that it reaches are marked, from the last site down,
 // so that each is looked at once however many ways lead to it.
 ghost use mathlib.Core.Path.{_≡_};
-ghost use mathlib.Core.Bool.{true, _&&_};
-ghost use mathlib.Core.List.{List, map};
+ghost use mathlib.Core.Bool.{true};
+ghost use mathlib.Core.List.{map};
 ghost use Prim.Native.Nat.{ℕ, _+_, _*_, _<_, _≤_};
 ghost use lib.ListN.{length, replicate};
 ghost use Rattle.definition.specs.Lists.{_is_, _implies_, upto};

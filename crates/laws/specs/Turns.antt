@@ -149,7 +149,7 @@ module _ {B : Type 0} where
   pub mapped-stop : (p : B → Bool) (f : ℕ → B) (n k : ℕ) → k < n → p (f k) ≡ false → all p (map f (upto n)) ≡ false
   mapped-stop p f n k h e = all-map p f (upto n) ∙ upto-stop (λ j. p (f j)) n k h e
 
--- A LOOP over a ≤ j < e that looks for one that passes
+-- A LOOP over a mapped list that looks for one that passes
 module _ {A : Type 0} where
   pub any-append : (p : A → Bool) (l m : List A) → any p (l ++ m) ≡ any p l || any p m
   any-append p [] m = refl
@@ -158,12 +158,6 @@ module _ {A : Type 0} where
       or-assoc : (x y z : Bool) → x || (y || z) ≡ (x || y) || z
       or-assoc true y z = refl
       or-assoc false y z = refl
-
-pub any-next : (p : ℕ → Bool) (a j : ℕ) → a ≤ j → any p (from a (j - a)) ≡ false → p j ≡ false → any p (from a (j + 1 - a)) ≡ false
-any-next p a j h e q =
-    let n : j + 1 - a ≡ (j - a) + 1 = omega arith in
-    let z : a + (j - a) ≡ j = omega arith in
-    ap (λ (m : ℕ). any p (from a m)) n ∙ ap (any p) (from-more a (j - a)) ∙ any-append p (from a (j - a)) ((a + (j - a)) ∷ []) ∙ rw (e, z, q)
 
 any-from-hit : (p : ℕ → Bool) (a n k : ℕ) → k < n → p (a + k) ≡ true → any p (from a n) ≡ true
 any-from-hit p a zero k h e = absurd (omega arith)
@@ -175,10 +169,6 @@ any-from-hit p a (suc n) (suc k) h e =
     or-true true = refl
     or-true false = refl
 
-pub any-hit : (p : ℕ → Bool) (a e j : ℕ) → a ≤ j → j < e → p j ≡ true → any p (from a (e - a)) ≡ true
-any-hit p a e j h g q = any-from-hit p a (e - a) (j - a) (omega arith) (ap p (omega arith) ∙ q)
-
--- the same over a mapped list
 module _ {B : Type 0} (p : B → Bool) (f : ℕ → B) where
   pub search-next : (k : ℕ) → any p (map f (upto k)) ≡ false → p (f k) ≡ false → any p (map f (upto (k + 1))) ≡ false
   search-next k e q = ap (any p) (map-more f k) ∙ any-append p (map f (upto k)) (f k ∷ []) ∙ rw (e, q)

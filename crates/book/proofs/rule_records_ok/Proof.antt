@@ -2,7 +2,6 @@
 use mathlib.Core.Path.{refl, sym, _∙_}
 use borrow.Author.Needs.{needs}
 use borrow.Author.Tests.{not-true, not-false}
-use Rattle.definition.specs.Bytes.{rule-gaps, rules-pass}
 use Rattle.laws.specs.Answers.{and-first, and-rest}
 use Rattle.book.proofs.rule_records_ok.Statement.{statement}
 use Rattle.book.proofs.rule_records_ok.Tie as tie

@@ -38,10 +38,16 @@ loop-less c = search needs
 
 loop-again : tie.Need-loop-again Inv-loop μ-loop
 unfolding sum-of
-loop-again c = let args = c .before .before .before .before .before .args in let loop = c .before .before .before .loop in (search needs, c .wrapping-add-u32 .ensures ∙ ap (λ (x : ℕ). x % 2 ^ 32) (ap₂ (λ (x y : ℕ). x + y) (loop .inv .1) (c .before .read32 .ensures ∙ omega arith)) ∙ ap (sum-of (edition-1 .weight) (args .book .now) (args .at)) (sym (add-one (loop .k))))
+loop-again c =
+    let args = c .before .before .before .before .before .args in
+    let loop = c .before .before .before .loop in
+    (search needs, c .wrapping-add-u32 .ensures ∙ ap (λ (x : ℕ). x % 2 ^ 32) (ap₂ (λ (x y : ℕ). x + y) (loop .inv .1) (c .before .read32 .ensures ∙ omega arith)) ∙ ap (sum-of (edition-1 .weight) (args .book .now) (args .at)) (sym (add-one (loop .k))))
 
 returns : tie.Need-returns Inv-loop μ-loop
-returns c = let args = c .before .before .before .args in let loop = c .before .loop in let e : loop .k ≡ 128 = omega arith in loop .inv .1 ∙ ap (sum-of (edition-1 .weight) (args .book .now) (args .at)) e
+returns c =
+    let args = c .before .before .before .args in
+    let loop = c .before .loop in
+    let e : loop .k ≡ 128 = omega arith in loop .inv .1 ∙ ap (sum-of (edition-1 .weight) (args .book .now) (args .at)) e
 
 pub block-sum-spec : {M : Type 1} → statement M
 block-sum-spec =

@@ -19,16 +19,22 @@ sums-ok-requires : tie.Need-sums-ok-requires
 sums-ok-requires c κs = search needs
 
 returns-2 : tie.Need-returns-2
-returns-2 c = let args = c .before .before .before .before .before .args in let p : length-ok (args .book .now) ≡ true = (sym (c .before .before .before .length-ok .ensures) ∙ not-false _ (c .before .before .if1 .left)) in let q : sums-ok (args .book .now) ≡ false = sym (c .before .sums-ok .ensures) ∙ not-true _ (c .if2 .taken) in rw (p, q)
+returns-2 c =
+    let args = c .before .before .before .before .before .args in
+    let p : length-ok (args .book .now) ≡ true = (sym (c .before .before .before .length-ok .ensures) ∙ not-false _ (c .before .before .if1 .left)) in let q : sums-ok (args .book .now) ≡ false = sym (c .before .sums-ok .ensures) ∙ not-true _ (c .if2 .taken) in rw (p, q)
 
 frames-ok-requires : tie.Need-frames-ok-requires
 frames-ok-requires c κs = at-least-one (c .before .before .before .before .before .args .book .now) (sym (c .before .before .before .length-ok .ensures) ∙ not-false _ (c .before .before .if1 .left))
 
 returns-3 : tie.Need-returns-3
-returns-3 c = let args = c .before .before .before .before .before .before .before .args in let p : length-ok (args .book .now) ≡ true = (sym (c .before .before .before .before .before .length-ok .ensures) ∙ not-false _ (c .before .before .before .before .if1 .left)) in let q : sums-ok (args .book .now) ≡ true = (sym (c .before .before .before .sums-ok .ensures) ∙ not-false _ (c .before .before .if2 .left)) in let r : frames-ok slots (args .book .now) ≡ false = sym (c .before .frames-ok .ensures) ∙ not-true _ (c .if3 .taken) in rw (p, q, r)
+returns-3 c =
+    let args = c .before .before .before .before .before .before .before .args in
+    let p : length-ok (args .book .now) ≡ true = (sym (c .before .before .before .before .before .length-ok .ensures) ∙ not-false _ (c .before .before .before .before .if1 .left)) in let q : sums-ok (args .book .now) ≡ true = (sym (c .before .before .before .sums-ok .ensures) ∙ not-false _ (c .before .before .if2 .left)) in let r : frames-ok slots (args .book .now) ≡ false = sym (c .before .frames-ok .ensures) ∙ not-true _ (c .if3 .taken) in rw (p, q, r)
 
 returns-4 : tie.Need-returns-4
-returns-4 c = let args = c .before .before .before .before .before .before .before .args in let p : length-ok (args .book .now) ≡ true = (sym (c .before .before .before .before .before .length-ok .ensures) ∙ not-false _ (c .before .before .before .before .if1 .left)) in let q : sums-ok (args .book .now) ≡ true = (sym (c .before .before .before .sums-ok .ensures) ∙ not-false _ (c .before .before .if2 .left)) in let r : frames-ok slots (args .book .now) ≡ true = sym (c .before .frames-ok .ensures) ∙ not-false _ (c .if3 .left) in rw (p, q, r)
+returns-4 c =
+    let args = c .before .before .before .before .before .before .before .args in
+    let p : length-ok (args .book .now) ≡ true = (sym (c .before .before .before .before .before .length-ok .ensures) ∙ not-false _ (c .before .before .before .before .if1 .left)) in let q : sums-ok (args .book .now) ≡ true = (sym (c .before .before .before .sums-ok .ensures) ∙ not-false _ (c .before .before .if2 .left)) in let r : frames-ok slots (args .book .now) ≡ true = sym (c .before .frames-ok .ensures) ∙ not-false _ (c .if3 .left) in rw (p, q, r)
 
 pub blocks-refusal-spec : {M : Type 1} → statement M
 blocks-refusal-spec =

@@ -15,7 +15,9 @@ framed-requires c κs = search needs
 
 returns : tie.Need-returns
 unfolding frame-ok
-returns c = let args = c .before .before .before .args in c .framed .ensures ∙ ap (framed (args .book .now) (args .i)) (sym (frame-head slots (args .sites) (args .rules) (args .i) (c .before .if1 .taken)))
+returns c =
+    let args = c .before .before .before .args in
+    c .framed .ensures ∙ ap (framed (args .book .now) (args .i)) (sym (frame-head slots (args .sites) (args .rules) (args .i) (c .before .if1 .taken)))
 
 sub-lesser : tie.Need-sub-lesser
 sub-lesser c = search needs
@@ -40,7 +42,9 @@ framed-requires-2 c κs = search needs
 
 returns-2 : tie.Need-returns-2
 unfolding frame-ok
-returns-2 c = let args = c .before .before .before .before .before .args in c .framed2 .ensures ∙ ap (framed (args .book .now) (args .i)) (sym (frame-sites slots (args .sites) (args .rules) (args .i) (c .before .lesser .result) (c .before .before .before .if1 .left) (c .before .before .if2 .taken) (c .before .lesser .ensures .0)))
+returns-2 c =
+    let args = c .before .before .before .before .before .args in
+    c .framed2 .ensures ∙ ap (framed (args .book .now) (args .i)) (sym (frame-sites slots (args .sites) (args .rules) (args .i) (c .before .lesser .result) (c .before .before .before .if1 .left) (c .before .before .if2 .taken) (c .before .lesser .ensures .0)))
 
 sub-lesser-3 : tie.Need-sub-lesser-3
 sub-lesser-3 c = search needs
@@ -68,7 +72,9 @@ framed-requires-3 c κs = search needs
 
 returns-3 : tie.Need-returns-3
 unfolding frame-ok
-returns-3 c = let args = c .before .before .before .before .before .args in c .framed3 .ensures ∙ ap (framed (args .book .now) (args .i)) (sym (frame-rules slots (args .sites) (args .rules) (args .i) (c .before .lesser2 .result) (c .before .before .before .if1 .left) (c .before .before .if2 .left) (c .before .lesser2 .ensures .0)))
+returns-3 c =
+    let args = c .before .before .before .before .before .args in
+    c .framed3 .ensures ∙ ap (framed (args .book .now) (args .i)) (sym (frame-rules slots (args .sites) (args .rules) (args .i) (c .before .lesser2 .result) (c .before .before .before .if1 .left) (c .before .before .if2 .left) (c .before .lesser2 .ensures .0)))
 
 pub frame-ok-spec : {M : Type 1} → statement M
 frame-ok-spec =

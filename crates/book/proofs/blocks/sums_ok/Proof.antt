@@ -7,7 +7,6 @@ use borrow.Author.Needs.{needs}
 use borrow.Author.Tests.{eq-eqb, ne-eqb}
 use lib.ListN.{length}
 use Rattle.definition.specs.Bytes.{block-count, edition-1, sum-ok, sums-ok}
-use Rattle.definition.specs.Choice.{count}
 use Rattle.definition.specs.Lists.{upto, all}
 use Rattle.laws.specs.Turns.{upto-next, upto-stop}
 use Rattle.book.proofs.blocks.sums_ok.Statement.{statement}
@@ -30,7 +29,10 @@ block-sum-requires c κs = search needs
 
 returns : tie.Need-returns Inv-loop μ-loop
 unfolding sums-ok sum-ok block-count
-returns c = let args = c .before .before .before .before .before .args in let loop = c .before .before .before .loop in let e : loop .i < length (args .book .now) / 512 = omega arith in sym (upto-stop (sum-ok (edition-1 .weight) (args .book .now)) (length (args .book .now) / 512) (loop .i) e (ne-eqb _ _ (λ q. c .if1 .taken (c .before .block-sum .ensures ∙ q))))
+returns c =
+    let args = c .before .before .before .before .before .args in
+    let loop = c .before .before .before .loop in
+    let e : loop .i < length (args .book .now) / 512 = omega arith in sym (upto-stop (sum-ok (edition-1 .weight) (args .book .now)) (length (args .book .now) / 512) (loop .i) e (ne-eqb _ _ (λ q. c .if1 .taken (c .before .block-sum .ensures ∙ q))))
 
 add-i : tie.Need-add-i Inv-loop μ-loop
 add-i c = search needs
@@ -40,11 +42,16 @@ loop-less c = search needs
 
 loop-again : tie.Need-loop-again Inv-loop μ-loop
 unfolding sum-ok
-loop-again c = let loop = c .before .before .before .loop in (omega arith, omega arith, upto-next (sum-ok (edition-1 .weight) (c .before .before .before .before .before .args .book .now)) (loop .i) (loop .inv .2) (eq-eqb _ _ (sym (c .before .block-sum .ensures) ∙ c .if1 .left)))
+loop-again c =
+    let loop = c .before .before .before .loop in
+    (omega arith, omega arith, upto-next (sum-ok (edition-1 .weight) (c .before .before .before .before .before .args .book .now)) (loop .i) (loop .inv .2) (eq-eqb _ _ (sym (c .before .block-sum .ensures) ∙ c .if1 .left)))
 
 returns-2 : tie.Need-returns-2 Inv-loop μ-loop
 unfolding sums-ok block-count
-returns-2 c = let args = c .before .before .before .args in let loop = c .before .loop in let e : loop .i ≡ length (args .book .now) / 512 = omega arith in sym (loop .inv .2) ∙ ap (λ (n : ℕ). all (sum-ok (edition-1 .weight) (args .book .now)) (upto n)) e
+returns-2 c =
+    let args = c .before .before .before .args in
+    let loop = c .before .loop in
+    let e : loop .i ≡ length (args .book .now) / 512 = omega arith in sym (loop .inv .2) ∙ ap (λ (n : ℕ). all (sum-ok (edition-1 .weight) (args .book .now)) (upto n)) e
 
 pub sums-ok-spec : {M : Type 1} → statement M
 sums-ok-spec =

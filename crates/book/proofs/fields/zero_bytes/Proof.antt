@@ -27,7 +27,9 @@ shared-slice-read-if1 c = search needs
 
 returns : tie.Need-returns Inv-loop μ-loop
 unfolding is-zero
-returns c = let args = c .before .before .before .before .args in sym (from-stop (is-zero (args .book .now)) (args .at) (args .n) (c .before .before .before .loop .k) (omega arith) (ne-eqb _ _ (c .if1 .taken)))
+returns c =
+    let args = c .before .before .before .before .args in
+    sym (from-stop (is-zero (args .book .now)) (args .at) (args .n) (c .before .before .before .loop .k) (omega arith) (ne-eqb _ _ (c .if1 .taken)))
 
 add-k : tie.Need-add-k Inv-loop μ-loop
 add-k c = search needs
@@ -37,10 +39,16 @@ loop-less c = search needs
 
 loop-again : tie.Need-loop-again Inv-loop μ-loop
 unfolding is-zero
-loop-again c = let args = c .before .before .before .before .args in let loop = c .before .before .before .loop in (search needs, from-one (is-zero (args .book .now)) (args .at) (loop .k) (loop .inv .1) (eq-eqb _ _ (c .if1 .left)))
+loop-again c =
+    let args = c .before .before .before .before .args in
+    let loop = c .before .before .before .loop in
+    (search needs, from-one (is-zero (args .book .now)) (args .at) (loop .k) (loop .inv .1) (eq-eqb _ _ (c .if1 .left)))
 
 returns-2 : tie.Need-returns-2 Inv-loop μ-loop
-returns-2 c = let args = c .before .before .args in let loop = c .before .loop in let e : loop .k ≡ args .n = omega arith in sym (loop .inv .1) ∙ ap (zero-from (args .book .now) (args .at)) e
+returns-2 c =
+    let args = c .before .before .args in
+    let loop = c .before .loop in
+    let e : loop .k ≡ args .n = omega arith in sym (loop .inv .1) ∙ ap (zero-from (args .book .now) (args .at)) e
 
 pub zero-bytes-spec : {M : Type 1} → statement M
 zero-bytes-spec =

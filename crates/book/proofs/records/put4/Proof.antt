@@ -3,7 +3,6 @@ use native.Mathlib.Omega.{arith}
 use borrow.Author.Needs.{needs}
 use lib.ListN.{length-set}
 use Rattle.book.proofs.Recording.{run4}
-use Rattle.definition.specs.Tree.{words}
 use Rattle.book.proofs.records.put4.Statement.{statement}
 use Rattle.book.proofs.records.put4.Tie as tie
 
@@ -44,7 +43,9 @@ same-length : tie.Need-same-length
 same-length c = search needs
 
 returns : tie.Need-returns
-returns c = let args = c .args in run4 (args .words .now) (args .at) (args .a) (args .b) (args .c) (args .d)
+returns c =
+    let args = c .args in
+    run4 (args .words .now) (args .at) (args .a) (args .b) (args .c) (args .d)
 
 pub put4-spec : {M : Type 1} → statement M
 put4-spec =

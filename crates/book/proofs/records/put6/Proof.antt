@@ -3,7 +3,6 @@ use native.Mathlib.Omega.{arith}
 use borrow.Author.Needs.{needs}
 use lib.ListN.{length-set}
 use Rattle.book.proofs.Recording.{run6}
-use Rattle.definition.specs.Tree.{words}
 use Rattle.book.proofs.records.put6.Statement.{statement}
 use Rattle.book.proofs.records.put6.Tie as tie
 
@@ -62,7 +61,9 @@ same-length : tie.Need-same-length
 same-length c = search needs
 
 returns : tie.Need-returns
-returns c = let args = c .args in run6 (args .words .now) (args .at) (args .a) (args .b) (args .c) (args .d) (args .e) (args .f)
+returns c =
+    let args = c .args in
+    run6 (args .words .now) (args .at) (args .a) (args .b) (args .c) (args .d) (args .e) (args .f)
 
 pub put6-spec : {M : Type 1} → statement M
 put6-spec =

@@ -59,7 +59,10 @@ read32-requires : tie.Need-read32-requires Inv-loop μ-loop
 read32-requires c κs = search needs
 
 put4-requires : tie.Need-put4-requires Inv-loop μ-loop
-put4-requires c κs = let args = c .before .before .before .before .before .before .before .before .before .args in let loop = c .before .before .before .before .before .before .loop in let h : length (loop .rules) ≡ length (args .rules .now) = ap length (loop .inv .1) ∙ length-sets (args .rules .now) (args .at) (flat (constraint-fields (args .book .now) (args .o)) (upto (loop .k))) in omega arith
+put4-requires c κs =
+    let args = c .before .before .before .before .before .before .before .before .before .args in
+    let loop = c .before .before .before .before .before .before .loop in
+    let h : length (loop .rules) ≡ length (args .rules .now) = ap length (loop .inv .1) ∙ length-sets (args .rules .now) (args .at) (flat (constraint-fields (args .book .now) (args .o)) (upto (loop .k))) in omega arith
 
 add-k : tie.Need-add-k Inv-loop μ-loop
 add-k c = search needs
@@ -68,13 +71,22 @@ loop-less : tie.Need-loop-less Inv-loop μ-loop
 loop-less c = search needs
 
 loop-again : tie.Need-loop-again Inv-loop μ-loop
-loop-again c = let args = c .before .before .before .before .before .before .before .before .before .before .before .before .args in let loop = c .before .before .before .before .before .before .before .before .before .loop in (search needs, c .before .before .put4 .ensures ∙ ap₂ (λ (m u : List ℕ). sets m (args .at + 4 * loop .k) u) (loop .inv .1) (constraint-read (args .book .now) (args .o) (loop .k) _ _ _ _ (c .before .before .before .before .before .before .read16 .ensures .0) (c .before .before .before .before .before .read8 .ensures) (c .before .before .before .before .read82 .ensures) (c .before .before .before .read32 .ensures)) ∙ records-more-at (args .rules .now) (args .at) (constraint-fields (args .book .now) (args .o)) 4 (loop .k) (four-fields (args .book .now) (args .o)))
+loop-again c =
+    let args = c .before .before .before .before .before .before .before .before .before .before .before .before .args in
+    let loop = c .before .before .before .before .before .before .before .before .before .loop in
+    (search needs, c .before .before .put4 .ensures ∙ ap₂ (λ (m u : List ℕ). sets m (args .at + 4 * loop .k) u) (loop .inv .1) (constraint-read (args .book .now) (args .o) (loop .k) _ _ _ _ (c .before .before .before .before .before .before .read16 .ensures .0) (c .before .before .before .before .before .read8 .ensures) (c .before .before .before .before .read82 .ensures) (c .before .before .before .read32 .ensures)) ∙ records-more-at (args .rules .now) (args .at) (constraint-fields (args .book .now) (args .o)) 4 (loop .k) (four-fields (args .book .now) (args .o)))
 
 same-length : tie.Need-same-length Inv-loop μ-loop
-same-length c = let args = c .before .before .before .before .args in let loop = c .before .loop in ap length (loop .inv .1) ∙ length-sets (args .rules .now) (args .at) (flat (constraint-fields (args .book .now) (args .o)) (upto (loop .k)))
+same-length c =
+    let args = c .before .before .before .before .args in
+    let loop = c .before .loop in
+    ap length (loop .inv .1) ∙ length-sets (args .rules .now) (args .at) (flat (constraint-fields (args .book .now) (args .o)) (upto (loop .k)))
 
 returns : tie.Need-returns Inv-loop μ-loop
-returns c = let args = c .before .before .before .before .args in let loop = c .before .loop in let e : loop .k ≡ 4 = omega arith in loop .inv .1 ∙ ap (λ (n : ℕ). sets (args .rules .now) (args .at) (flat (constraint-fields (args .book .now) (args .o)) (upto n))) e
+returns c =
+    let args = c .before .before .before .before .args in
+    let loop = c .before .loop in
+    let e : loop .k ≡ 4 = omega arith in loop .inv .1 ∙ ap (λ (n : ℕ). sets (args .rules .now) (args .at) (flat (constraint-fields (args .book .now) (args .o)) (upto n))) e
 
 pub put-constraints-spec : {M : Type 1} → statement M
 put-constraints-spec =

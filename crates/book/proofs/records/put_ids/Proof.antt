@@ -41,7 +41,10 @@ mul-rules : tie.Need-mul-rules Inv-loop μ-loop
 mul-rules c = search needs
 
 slice-write-rules : tie.Need-slice-write-rules Inv-loop μ-loop
-slice-write-rules c = let args = c .before .before .before .before .before .args in let loop = c .before .before .loop in let h : length (loop .rules) ≡ length (args .rules .now) = ap length (loop .inv .1) ∙ length-sets (args .rules .now) (args .at) (map (id-field slots (args .book .now) (args .o)) (upto (loop .k))) in omega arith
+slice-write-rules c =
+    let args = c .before .before .before .before .before .args in
+    let loop = c .before .before .loop in
+    let h : length (loop .rules) ≡ length (args .rules .now) = ap length (loop .inv .1) ∙ length-sets (args .rules .now) (args .at) (map (id-field slots (args .book .now) (args .o)) (upto (loop .k))) in omega arith
 
 add-k : tie.Need-add-k Inv-loop μ-loop
 add-k c = search needs
@@ -51,13 +54,22 @@ loop-less c = search needs
 
 loop-again : tie.Need-loop-again Inv-loop μ-loop
 unfolding id-field
-loop-again c = let args = c .before .before .before .before .before .args in let loop = c .before .before .loop in let q : args .o + 46 ≡ args .o + 14 + 32 = omega arith in (search needs, ap₂ (λ (m : List ℕ) (x : ℕ). set m (args .at + loop .k) x) (loop .inv .1) (c .read16 .ensures .0 ∙ ap (λ (o : ℕ). le16 (args .book .now) (o + 2 * loop .k)) q) ∙ words-more (args .rules .now) (args .at) (id-field slots (args .book .now) (args .o)) (loop .k))
+loop-again c =
+    let args = c .before .before .before .before .before .args in
+    let loop = c .before .before .loop in
+    let q : args .o + 46 ≡ args .o + 14 + 32 = omega arith in (search needs, ap₂ (λ (m : List ℕ) (x : ℕ). set m (args .at + loop .k) x) (loop .inv .1) (c .read16 .ensures .0 ∙ ap (λ (o : ℕ). le16 (args .book .now) (o + 2 * loop .k)) q) ∙ words-more (args .rules .now) (args .at) (id-field slots (args .book .now) (args .o)) (loop .k))
 
 same-length : tie.Need-same-length Inv-loop μ-loop
-same-length c = let args = c .before .before .before .before .args in let loop = c .before .loop in ap length (loop .inv .1) ∙ length-sets (args .rules .now) (args .at) (map (id-field slots (args .book .now) (args .o)) (upto (loop .k)))
+same-length c =
+    let args = c .before .before .before .before .args in
+    let loop = c .before .loop in
+    ap length (loop .inv .1) ∙ length-sets (args .rules .now) (args .at) (map (id-field slots (args .book .now) (args .o)) (upto (loop .k)))
 
 returns : tie.Need-returns Inv-loop μ-loop
-returns c = let args = c .before .before .before .before .args in let loop = c .before .loop in let e : loop .k ≡ 12 = omega arith in loop .inv .1 ∙ ap (λ (n : ℕ). sets (args .rules .now) (args .at) (map (id-field slots (args .book .now) (args .o)) (upto n))) e
+returns c =
+    let args = c .before .before .before .before .args in
+    let loop = c .before .loop in
+    let e : loop .k ≡ 12 = omega arith in loop .inv .1 ∙ ap (λ (n : ℕ). sets (args .rules .now) (args .at) (map (id-field slots (args .book .now) (args .o)) (upto n))) e
 
 pub put-ids-spec : {M : Type 1} → statement M
 put-ids-spec =

@@ -56,7 +56,9 @@ same-length : tie.Need-same-length
 same-length c = search needs
 
 returns : tie.Need-returns
-returns c = let args = c .before .before .before .before .before .before .before .before .before .before .before .before .before .before .before .before .before .before .before .before .args in rule-run (args .book .now) (args .o) (args .at) (c .before .before .before .before .before .before .before .before .before .before .before .before .before .before .before .before .read32 .result) (c .before .before .before .before .before .before .before .before .before .before .before .before .before .before .before .read322 .result) (c .before .before .before .before .before .before .before .before .before .before .before .before .before .before .read16 .result) (c .before .before .before .before .before .before .before .before .before .before .before .before .before .read8 .result) (c .before .before .before .before .before .before .before .before .before .before .before .before .read82 .result) (c .before .before .before .before .before .before .before .before .before .before .before .read83 .result) (args .rules .now) _ _ _ (c .before .before .before .before .before .before .before .before .before .before .before .before .before .before .before .before .read32 .ensures) (c .before .before .before .before .before .before .before .before .before .before .before .before .before .before .before .read322 .ensures) (c .before .before .before .before .before .before .before .before .before .before .before .before .before .before .read16 .ensures .0) (c .before .before .before .before .before .before .before .before .before .before .before .before .before .read8 .ensures) (c .before .before .before .before .before .before .before .before .before .before .before .before .read82 .ensures) (c .before .before .before .before .before .before .before .before .before .before .before .read83 .ensures) (c .before .before .before .before .before .before .before .before .before .before .put6 .ensures) (c .before .before .before .before .before .before .put-constraints .ensures) (c .before .before .put-ids .ensures)
+returns c =
+    let args = c .before .before .before .before .before .before .before .before .before .before .before .before .before .before .before .before .before .before .before .before .args in
+    rule-run (args .book .now) (args .o) (args .at) (c .before .before .before .before .before .before .before .before .before .before .before .before .before .before .before .before .read32 .result) (c .before .before .before .before .before .before .before .before .before .before .before .before .before .before .before .read322 .result) (c .before .before .before .before .before .before .before .before .before .before .before .before .before .before .read16 .result) (c .before .before .before .before .before .before .before .before .before .before .before .before .before .read8 .result) (c .before .before .before .before .before .before .before .before .before .before .before .before .read82 .result) (c .before .before .before .before .before .before .before .before .before .before .before .read83 .result) (args .rules .now) _ _ _ (c .before .before .before .before .before .before .before .before .before .before .before .before .before .before .before .before .read32 .ensures) (c .before .before .before .before .before .before .before .before .before .before .before .before .before .before .before .read322 .ensures) (c .before .before .before .before .before .before .before .before .before .before .before .before .before .before .read16 .ensures .0) (c .before .before .before .before .before .before .before .before .before .before .before .before .before .read8 .ensures) (c .before .before .before .before .before .before .before .before .before .before .before .before .read82 .ensures) (c .before .before .before .before .before .before .before .before .before .before .before .read83 .ensures) (c .before .before .before .before .before .before .before .before .before .before .put6 .ensures) (c .before .before .before .before .before .before .put-constraints .ensures) (c .before .before .put-ids .ensures)
 
 pub put-rule-spec : {M : Type 1} → statement M
 put-rule-spec =

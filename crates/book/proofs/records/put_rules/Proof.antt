@@ -9,8 +9,7 @@ use lib.Seq.{sets, length-sets}
 use Rattle.book.proofs.Recording.{length-rule-fields}
 use Rattle.definition.specs.Book.{slots}
 use Rattle.definition.specs.Bytes.{rule-record, rule-table}
-use Rattle.definition.specs.Choice.{count}
-use Rattle.definition.specs.Lists.{upto, first, flat}
+use Rattle.definition.specs.Lists.{upto, flat}
 use Rattle.laws.specs.Stores.{records-more}
 use Rattle.book.proofs.records.put_rules.Statement.{statement}
 use Rattle.book.proofs.records.put_rules.Tie as tie
@@ -49,7 +48,10 @@ mul-put-rule-3 : tie.Need-mul-put-rule-3 Inv-loop μ-loop
 mul-put-rule-3 c = search needs
 
 put-rule-requires : tie.Need-put-rule-requires Inv-loop μ-loop
-put-rule-requires c κs = let args = c .before .before .before .before .before .args in let loop = c .before .before .loop in let h : length (loop .rules) ≡ length (args .rules .now) = ap length (loop .inv .2) ∙ length-sets (args .rules .now) 0 (flat (rule-record slots (args .sites) (args .book .now)) (upto (loop .i))) in (omega arith, omega arith)
+put-rule-requires c κs =
+    let args = c .before .before .before .before .before .args in
+    let loop = c .before .before .loop in
+    let h : length (loop .rules) ≡ length (args .rules .now) = ap length (loop .inv .2) ∙ length-sets (args .rules .now) 0 (flat (rule-record slots (args .sites) (args .book .now)) (upto (loop .i))) in (omega arith, omega arith)
 
 add-i : tie.Need-add-i Inv-loop μ-loop
 add-i c = search needs
@@ -59,14 +61,23 @@ loop-less c = search needs
 
 loop-again : tie.Need-loop-again Inv-loop μ-loop
 unfolding rule-record
-loop-again c = let args = c .before .before .before .before .before .before .before .before .args in let loop = c .before .before .before .before .before .loop in (search needs, refl, c .before .before .put-rule .ensures ∙ ap (λ (m : List ℕ). sets m (34 * loop .i) ((rule-record slots (args .sites) (args .book .now)) (loop .i))) (loop .inv .2) ∙ records-more (args .rules .now) (rule-record slots (args .sites) (args .book .now)) 34 (loop .i) (λ i. length-rule-fields (args .book .now) _))
+loop-again c =
+    let args = c .before .before .before .before .before .before .before .before .args in
+    let loop = c .before .before .before .before .before .loop in
+    (search needs, refl, c .before .before .put-rule .ensures ∙ ap (λ (m : List ℕ). sets m (34 * loop .i) ((rule-record slots (args .sites) (args .book .now)) (loop .i))) (loop .inv .2) ∙ records-more (args .rules .now) (rule-record slots (args .sites) (args .book .now)) 34 (loop .i) (λ i. length-rule-fields (args .book .now) _))
 
 same-length : tie.Need-same-length Inv-loop μ-loop
-same-length c = let args = c .before .before .before .before .args in let loop = c .before .loop in ap length (loop .inv .2) ∙ length-sets (args .rules .now) 0 (flat (rule-record slots (args .sites) (args .book .now)) (upto (loop .i)))
+same-length c =
+    let args = c .before .before .before .before .args in
+    let loop = c .before .loop in
+    ap length (loop .inv .2) ∙ length-sets (args .rules .now) 0 (flat (rule-record slots (args .sites) (args .book .now)) (upto (loop .i)))
 
 returns : tie.Need-returns Inv-loop μ-loop
 unfolding rule-table
-returns c = let args = c .before .before .before .before .args in let loop = c .before .loop in let e : loop .i ≡ args .count = omega arith in loop .inv .2 ∙ ap (λ (n : ℕ). sets (args .rules .now) 0 (flat (rule-record slots (args .sites) (args .book .now)) (upto n))) e
+returns c =
+    let args = c .before .before .before .before .args in
+    let loop = c .before .loop in
+    let e : loop .i ≡ args .count = omega arith in loop .inv .2 ∙ ap (λ (n : ℕ). sets (args .rules .now) 0 (flat (rule-record slots (args .sites) (args .book .now)) (upto n))) e
 
 pub put-rules-spec : {M : Type 1} → statement M
 put-rules-spec =

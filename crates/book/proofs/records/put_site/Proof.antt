@@ -67,13 +67,17 @@ same-length : tie.Need-same-length
 same-length c = search needs
 
 returns : tie.Need-returns
-returns c = let args = c .before .before .before .before .before .before .before .before .before .before .before .before .before .args in c .before .before .put6 .ensures ∙ ap (sets (args .sites .now) (args .at)) (site-bound (args .book .now) (args .o) (c .before .before .before .before .before .before .before .before .before .before .read8 .result) (c .before .before .before .before .before .before .before .before .before .read82 .result) (c .before .before .before .before .before .before .before .before .read16 .result) (c .before .before .before .before .before .read83 .result) (c .before .before .before .before .read84 .result) (c .before .before .before .read32 .result) (c .before .before .before .before .before .before .before .if1 .taken) (c .before .before .before .before .before .before .before .before .before .before .read8 .ensures) (c .before .before .before .before .before .before .before .before .before .read82 .ensures) (c .before .before .before .before .before .before .before .before .read16 .ensures .0) (c .before .before .before .before .before .read83 .ensures) (c .before .before .before .before .read84 .ensures) (c .before .before .before .read32 .ensures))
+returns c =
+    let args = c .before .before .before .before .before .before .before .before .before .before .before .before .before .args in
+    c .before .before .put6 .ensures ∙ ap (sets (args .sites .now) (args .at)) (site-bound (args .book .now) (args .o) (c .before .before .before .before .before .before .before .before .before .before .read8 .result) (c .before .before .before .before .before .before .before .before .before .read82 .result) (c .before .before .before .before .before .before .before .before .read16 .result) (c .before .before .before .before .before .read83 .result) (c .before .before .before .before .read84 .result) (c .before .before .before .read32 .result) (c .before .before .before .before .before .before .before .if1 .taken) (c .before .before .before .before .before .before .before .before .before .before .read8 .ensures) (c .before .before .before .before .before .before .before .before .before .read82 .ensures) (c .before .before .before .before .before .before .before .before .read16 .ensures .0) (c .before .before .before .before .before .read83 .ensures) (c .before .before .before .before .read84 .ensures) (c .before .before .before .read32 .ensures))
 
 same-length-2 : tie.Need-same-length-2
 same-length-2 c = search needs
 
 returns-2 : tie.Need-returns-2
-returns-2 c = let args = c .before .before .before .before .before .before .before .before .before .before .before .before .before .args in c .before .before .put62 .ensures ∙ ap (sets (args .sites .now) (args .at)) (site-plain (args .book .now) (args .o) (c .before .before .before .before .before .before .before .before .before .before .read8 .result) (c .before .before .before .before .before .before .before .before .before .read82 .result) (c .before .before .before .before .before .before .before .before .read16 .result) (c .before .before .before .before .before .read162 .result) (c .before .before .before .before .read163 .result) (c .before .before .before .read164 .result) (c .before .before .before .before .before .before .before .if1 .left) (c .before .before .before .before .before .before .before .before .before .before .read8 .ensures) (c .before .before .before .before .before .before .before .before .before .read82 .ensures) (c .before .before .before .before .before .before .before .before .read16 .ensures .0) (c .before .before .before .before .before .read162 .ensures .0) (c .before .before .before .before .read163 .ensures .0) (c .before .before .before .read164 .ensures .0))
+returns-2 c =
+    let args = c .before .before .before .before .before .before .before .before .before .before .before .before .before .args in
+    c .before .before .put62 .ensures ∙ ap (sets (args .sites .now) (args .at)) (site-plain (args .book .now) (args .o) (c .before .before .before .before .before .before .before .before .before .before .read8 .result) (c .before .before .before .before .before .before .before .before .before .read82 .result) (c .before .before .before .before .before .before .before .before .read16 .result) (c .before .before .before .before .before .read162 .result) (c .before .before .before .before .read163 .result) (c .before .before .before .read164 .result) (c .before .before .before .before .before .before .before .if1 .left) (c .before .before .before .before .before .before .before .before .before .before .read8 .ensures) (c .before .before .before .before .before .before .before .before .before .read82 .ensures) (c .before .before .before .before .before .before .before .before .read16 .ensures .0) (c .before .before .before .before .before .read162 .ensures .0) (c .before .before .before .before .read163 .ensures .0) (c .before .before .before .read164 .ensures .0))
 
 pub put-site-spec : {M : Type 1} → statement M
 put-site-spec =

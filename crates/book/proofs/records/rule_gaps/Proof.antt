@@ -7,8 +7,7 @@ use borrow.Author.Needs.{needs}
 use borrow.Author.Tests.{not-true, not-false}
 use Rattle.definition.specs.Book.{slots}
 use Rattle.definition.specs.Bytes.{rule-gap, rule-gaps}
-use Rattle.definition.specs.Choice.{count}
-use Rattle.definition.specs.Lists.{upto, all, first}
+use Rattle.definition.specs.Lists.{upto, all}
 use Rattle.laws.specs.Turns.{upto-next, upto-stop}
 use Rattle.book.proofs.records.rule_gaps.Statement.{statement}
 use Rattle.book.proofs.records.rule_gaps.Tie as tie
@@ -48,7 +47,9 @@ rule-gap-requires c κs = search needs
 
 returns : tie.Need-returns Inv-loop μ-loop
 unfolding rule-gaps rule-gap
-returns c = let args = c .before .before .before .before .before .args in sym (upto-stop (rule-gap slots (args .sites) (args .book .now)) (args .count) (c .before .before .before .loop .i) (c .before .before .loop-test .taken) (sym (c .before .rule-gap .ensures) ∙ not-true _ (c .if1 .taken)))
+returns c =
+    let args = c .before .before .before .before .before .args in
+    sym (upto-stop (rule-gap slots (args .sites) (args .book .now)) (args .count) (c .before .before .before .loop .i) (c .before .before .loop-test .taken) (sym (c .before .rule-gap .ensures) ∙ not-true _ (c .if1 .taken)))
 
 add-i : tie.Need-add-i Inv-loop μ-loop
 add-i c = search needs
@@ -58,11 +59,17 @@ loop-less c = search needs
 
 loop-again : tie.Need-loop-again Inv-loop μ-loop
 unfolding rule-gap
-loop-again c = let args = c .before .before .before .before .before .args in let loop = c .before .before .before .loop in (search needs, refl, upto-next (rule-gap slots (args .sites) (args .book .now)) (loop .i) (loop .inv .2) (sym (c .before .rule-gap .ensures) ∙ not-false _ (c .if1 .left)))
+loop-again c =
+    let args = c .before .before .before .before .before .args in
+    let loop = c .before .before .before .loop in
+    (search needs, refl, upto-next (rule-gap slots (args .sites) (args .book .now)) (loop .i) (loop .inv .2) (sym (c .before .rule-gap .ensures) ∙ not-false _ (c .if1 .left)))
 
 returns-2 : tie.Need-returns-2 Inv-loop μ-loop
 unfolding rule-gaps
-returns-2 c = let args = c .before .before .before .args in let loop = c .before .loop in let e : loop .i ≡ args .count = omega arith in sym (loop .inv .2) ∙ ap (λ (n : ℕ). all (rule-gap slots (args .sites) (args .book .now)) (upto n)) e
+returns-2 c =
+    let args = c .before .before .before .args in
+    let loop = c .before .loop in
+    let e : loop .i ≡ args .count = omega arith in sym (loop .inv .2) ∙ ap (λ (n : ℕ). all (rule-gap slots (args .sites) (args .book .now)) (upto n)) e
 
 pub rule-gaps-spec : {M : Type 1} → statement M
 rule-gaps-spec =

@@ -6,7 +6,6 @@ use native.Mathlib.Omega.{arith}
 use borrow.Author.Needs.{needs}
 use borrow.Author.Tests.{not-true, not-false}
 use Rattle.definition.specs.Bytes.{site-gap, site-gaps}
-use Rattle.definition.specs.Choice.{count}
 use Rattle.definition.specs.Lists.{upto, all}
 use Rattle.laws.specs.Turns.{upto-next, upto-stop}
 use Rattle.book.proofs.records.site_gaps.Statement.{statement}
@@ -44,7 +43,9 @@ zero-bytes-requires c κs = search needs
 
 returns : tie.Need-returns Inv-loop μ-loop
 unfolding site-gaps site-gap
-returns c = let args = c .before .before .before .before .before .args in sym (upto-stop (site-gap (args .book .now)) (args .count) (c .before .before .before .loop .s) (c .before .before .loop-test .taken) (sym (c .before .zero-bytes .ensures) ∙ not-true _ (c .if1 .taken)))
+returns c =
+    let args = c .before .before .before .before .before .args in
+    sym (upto-stop (site-gap (args .book .now)) (args .count) (c .before .before .before .loop .s) (c .before .before .loop-test .taken) (sym (c .before .zero-bytes .ensures) ∙ not-true _ (c .if1 .taken)))
 
 add-s : tie.Need-add-s Inv-loop μ-loop
 add-s c = search needs
@@ -54,11 +55,16 @@ loop-less c = search needs
 
 loop-again : tie.Need-loop-again Inv-loop μ-loop
 unfolding site-gap
-loop-again c = let loop = c .before .before .before .loop in (search needs, upto-next (site-gap (c .before .before .before .before .before .args .book .now)) (loop .s) (loop .inv .1) (sym (c .before .zero-bytes .ensures) ∙ not-false _ (c .if1 .left)))
+loop-again c =
+    let loop = c .before .before .before .loop in
+    (search needs, upto-next (site-gap (c .before .before .before .before .before .args .book .now)) (loop .s) (loop .inv .1) (sym (c .before .zero-bytes .ensures) ∙ not-false _ (c .if1 .left)))
 
 returns-2 : tie.Need-returns-2 Inv-loop μ-loop
 unfolding site-gaps
-returns-2 c = let args = c .before .before .before .args in let loop = c .before .loop in let e : loop .s ≡ args .count = omega arith in sym (loop .inv .1) ∙ ap (λ (n : ℕ). all (site-gap (args .book .now)) (upto n)) e
+returns-2 c =
+    let args = c .before .before .before .args in
+    let loop = c .before .loop in
+    let e : loop .s ≡ args .count = omega arith in sym (loop .inv .1) ∙ ap (λ (n : ℕ). all (site-gap (args .book .now)) (upto n)) e
 
 pub site-gaps-spec : {M : Type 1} → statement M
 site-gaps-spec =

@@ -8,9 +8,8 @@ use borrow.Author.Needs.{needs}
 use borrow.Author.Tests.{not-true, not-false}
 use Rattle.definition.specs.Accept.{pair-apart, apart}
 use Rattle.definition.specs.Book.{slots}
-use Rattle.definition.specs.Choice.{count}
 use Rattle.definition.specs.Lists.{upto, all}
-use Rattle.definition.specs.Tables.{rule-word, pair-at, rule-at}
+use Rattle.definition.specs.Tables.{pair-at, rule-at}
 use Rattle.laws.specs.Turns.{mapped-next, mapped-stop}
 use Rattle.checks.proofs.apart.apart.Statement.{statement}
 use Rattle.checks.proofs.apart.apart.Tie as tie
@@ -35,7 +34,9 @@ pair-apart-requires c κs = search needs
 
 returns : tie.Need-returns Inv-loop μ-loop
 unfolding apart rule-at
-returns c = let args = c .before .before .before .before .before .before .before .args in sym (mapped-stop (pair-apart (rule-at slots (args .rules .now) (args .i))) (pair-at slots (args .rules .now) (args .i)) (c .before .before .before .before .wide .result) (c .before .before .before .loop .k) (c .before .before .loop-test .taken) (sym (c .before .pair-apart .ensures) ∙ not-true _ (c .if1 .taken))) ∙ (ap (λ (n : ℕ). all (pair-apart (rule-at slots (args .rules .now) (args .i))) (map (pair-at slots (args .rules .now) (args .i)) (upto n))) (c .before .before .before .before .wide .ensures ∙ c .before .before .before .before .before .rule-word .ensures))
+returns c =
+    let args = c .before .before .before .before .before .before .before .args in
+    sym (mapped-stop (pair-apart (rule-at slots (args .rules .now) (args .i))) (pair-at slots (args .rules .now) (args .i)) (c .before .before .before .before .wide .result) (c .before .before .before .loop .k) (c .before .before .loop-test .taken) (sym (c .before .pair-apart .ensures) ∙ not-true _ (c .if1 .taken))) ∙ (ap (λ (n : ℕ). all (pair-apart (rule-at slots (args .rules .now) (args .i))) (map (pair-at slots (args .rules .now) (args .i)) (upto n))) (c .before .before .before .before .wide .ensures ∙ c .before .before .before .before .before .rule-word .ensures))
 
 add-k : tie.Need-add-k Inv-loop μ-loop
 add-k c = search needs
@@ -44,11 +45,17 @@ loop-less : tie.Need-loop-less Inv-loop μ-loop
 loop-less c = search needs
 
 loop-again : tie.Need-loop-again Inv-loop μ-loop
-loop-again c = let args = c .before .before .before .before .before .before .before .args in let loop = c .before .before .before .loop in (search needs, mapped-next (pair-apart (rule-at slots (args .rules .now) (args .i))) (pair-at slots (args .rules .now) (args .i)) (loop .k) (loop .inv .1) (sym (c .before .pair-apart .ensures) ∙ not-false _ (c .if1 .left)))
+loop-again c =
+    let args = c .before .before .before .before .before .before .before .args in
+    let loop = c .before .before .before .loop in
+    (search needs, mapped-next (pair-apart (rule-at slots (args .rules .now) (args .i))) (pair-at slots (args .rules .now) (args .i)) (loop .k) (loop .inv .1) (sym (c .before .pair-apart .ensures) ∙ not-false _ (c .if1 .left)))
 
 returns-2 : tie.Need-returns-2 Inv-loop μ-loop
 unfolding apart rule-at
-returns-2 c = let args = c .before .before .before .before .before .args in let loop = c .before .loop in let e : loop .k ≡ c .before .before .wide .result = omega arith in sym (loop .inv .1) ∙ ap (λ (n : ℕ). all (pair-apart (rule-at slots (args .rules .now) (args .i))) (map (pair-at slots (args .rules .now) (args .i)) (upto n))) e ∙ (ap (λ (n : ℕ). all (pair-apart (rule-at slots (args .rules .now) (args .i))) (map (pair-at slots (args .rules .now) (args .i)) (upto n))) (c .before .before .wide .ensures ∙ c .before .before .before .rule-word .ensures))
+returns-2 c =
+    let args = c .before .before .before .before .before .args in
+    let loop = c .before .loop in
+    let e : loop .k ≡ c .before .before .wide .result = omega arith in sym (loop .inv .1) ∙ ap (λ (n : ℕ). all (pair-apart (rule-at slots (args .rules .now) (args .i))) (map (pair-at slots (args .rules .now) (args .i)) (upto n))) e ∙ (ap (λ (n : ℕ). all (pair-apart (rule-at slots (args .rules .now) (args .i))) (map (pair-at slots (args .rules .now) (args .i)) (upto n))) (c .before .before .wide .ensures ∙ c .before .before .before .rule-word .ensures))
 
 pub apart-spec : {M : Type 1} → statement M
 apart-spec =

@@ -4,7 +4,7 @@ use mathlib.Core.Path.{_≡_, ap, _∙_}
 use mathlib.Core.List.{map}
 use native.Mathlib.Omega.{arith}
 use borrow.Author.Needs.{needs}
-use Rattle.definition.specs.Book.{slots, site, is-on, constrains}
+use Rattle.definition.specs.Book.{slots, is-on, constrains}
 use Rattle.definition.specs.Lists.{upto, any}
 use Rattle.definition.specs.Tables.{rule-word, constraint-at, rule-at}
 use Rattle.checks.proofs.apart.constrains.Statement.{statement}
@@ -21,7 +21,9 @@ constrained-from-requires c κs = search needs
 
 returns : tie.Need-returns
 unfolding constrains rule-at
-returns c = let args = c .before .before .before .before .args in let e : c .before .wide .result - 0 ≡ rule-word slots (args .rules .now) (args .i) 3 = omega (arith, (c .before .wide .ensures ∙ c .before .before .rule-word .ensures)) in c .constrained-from .ensures ∙ ap (λ (m : ℕ). any (is-on (args .site)) (map (constraint-at slots (args .rules .now) (args .i)) (upto m))) e
+returns c =
+    let args = c .before .before .before .before .args in
+    let e : c .before .wide .result - 0 ≡ rule-word slots (args .rules .now) (args .i) 3 = omega (arith, (c .before .wide .ensures ∙ c .before .before .rule-word .ensures)) in c .constrained-from .ensures ∙ ap (λ (m : ℕ). any (is-on (args .site)) (map (constraint-at slots (args .rules .now) (args .i)) (upto m))) e
 
 pub constrains-spec : {M : Type 1} → statement M
 constrains-spec =

@@ -4,7 +4,7 @@ use mathlib.Core.Bool.{not}
 use borrow.Author.Needs.{needs}
 use Rattle.definition.specs.Accept.{pair-apart}
 use Rattle.definition.specs.Book.{slots, constrains}
-use Rattle.definition.specs.Tables.{rule-word, pair-at, rule-at}
+use Rattle.definition.specs.Tables.{pair-at, rule-at}
 use Rattle.laws.specs.Answers.{and-first, and-rest}
 use Rattle.checks.proofs.apart.pair_apart.Statement.{statement}
 use Rattle.checks.proofs.apart.pair_apart.Tie as tie
@@ -23,7 +23,9 @@ constrains-requires c κs = search needs
 
 returns : tie.Need-returns
 unfolding pair-apart pair-at
-returns c = let args = c .before .before .before .before .args in sym (and-first _ (ap not ((ap (constrains (rule-at slots (args .rules .now) (args .i))) (sym (c .before .before .rule-word .ensures)) ∙ sym (c .before .constrains .ensures)) ∙ c .if1 .taken)))
+returns c =
+    let args = c .before .before .before .before .args in
+    sym (and-first _ (ap not ((ap (constrains (rule-at slots (args .rules .now) (args .i))) (sym (c .before .before .rule-word .ensures)) ∙ sym (c .before .constrains .ensures)) ∙ c .if1 .taken)))
 
 mul-rule-word-2 : tie.Need-mul-rule-word-2
 mul-rule-word-2 c = search needs
@@ -42,7 +44,9 @@ constrains-requires-2 c κs = search needs
 
 returns-2 : tie.Need-returns-2
 unfolding pair-apart pair-at
-returns-2 c = let args = c .before .before .before .before .before .before .args in sym (and-rest (ap not ((ap (constrains (rule-at slots (args .rules .now) (args .i))) (sym (c .before .before .before .before .rule-word .ensures)) ∙ sym (c .before .before .before .constrains .ensures)) ∙ c .before .before .if1 .left)) (ap not (ap (constrains (rule-at slots (args .rules .now) (args .i))) (sym (c .before .rule-word2 .ensures)) ∙ sym (c .constrains2 .ensures))))
+returns-2 c =
+    let args = c .before .before .before .before .before .before .args in
+    sym (and-rest (ap not ((ap (constrains (rule-at slots (args .rules .now) (args .i))) (sym (c .before .before .before .before .rule-word .ensures)) ∙ sym (c .before .before .before .constrains .ensures)) ∙ c .before .before .if1 .left)) (ap not (ap (constrains (rule-at slots (args .rules .now) (args .i))) (sym (c .before .rule-word2 .ensures)) ∙ sym (c .constrains2 .ensures))))
 
 pub pair-apart-spec : {M : Type 1} → statement M
 pair-apart-spec =

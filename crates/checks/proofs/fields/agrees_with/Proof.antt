@@ -8,9 +8,8 @@ use borrow.Author.Needs.{needs}
 use borrow.Author.Tests.{not-true, not-false}
 use Rattle.definition.specs.Accept.{fields-agree, agrees-with}
 use Rattle.definition.specs.Book.{slots}
-use Rattle.definition.specs.Choice.{count}
 use Rattle.definition.specs.Lists.{upto, all}
-use Rattle.definition.specs.Tables.{rule-word, constraint-at, rule-at}
+use Rattle.definition.specs.Tables.{constraint-at, rule-at}
 use Rattle.laws.specs.Turns.{mapped-next, mapped-stop}
 use Rattle.checks.proofs.fields.agrees_with.Statement.{statement}
 use Rattle.checks.proofs.fields.agrees_with.Tie as tie
@@ -35,7 +34,9 @@ fields-agree-requires c κs = search needs
 
 returns : tie.Need-returns Inv-loop μ-loop
 unfolding agrees-with rule-at
-returns c = let args = c .before .before .before .before .before .before .before .args in sym (mapped-stop (fields-agree (constraint-at slots (args .rules .now) (args .i) (args .k))) (constraint-at slots (args .rules .now) (args .j)) (c .before .before .before .before .wide .result) (c .before .before .before .loop .m) (c .before .before .loop-test .taken) (sym (c .before .fields-agree .ensures) ∙ not-true _ (c .if1 .taken))) ∙ (ap (λ (n : ℕ). all (fields-agree (constraint-at slots (args .rules .now) (args .i) (args .k))) (map (constraint-at slots (args .rules .now) (args .j)) (upto n))) (c .before .before .before .before .wide .ensures ∙ c .before .before .before .before .before .rule-word .ensures))
+returns c =
+    let args = c .before .before .before .before .before .before .before .args in
+    sym (mapped-stop (fields-agree (constraint-at slots (args .rules .now) (args .i) (args .k))) (constraint-at slots (args .rules .now) (args .j)) (c .before .before .before .before .wide .result) (c .before .before .before .loop .m) (c .before .before .loop-test .taken) (sym (c .before .fields-agree .ensures) ∙ not-true _ (c .if1 .taken))) ∙ (ap (λ (n : ℕ). all (fields-agree (constraint-at slots (args .rules .now) (args .i) (args .k))) (map (constraint-at slots (args .rules .now) (args .j)) (upto n))) (c .before .before .before .before .wide .ensures ∙ c .before .before .before .before .before .rule-word .ensures))
 
 add-m : tie.Need-add-m Inv-loop μ-loop
 add-m c = search needs
@@ -44,11 +45,17 @@ loop-less : tie.Need-loop-less Inv-loop μ-loop
 loop-less c = search needs
 
 loop-again : tie.Need-loop-again Inv-loop μ-loop
-loop-again c = let args = c .before .before .before .before .before .before .before .args in let loop = c .before .before .before .loop in (search needs, mapped-next (fields-agree (constraint-at slots (args .rules .now) (args .i) (args .k))) (constraint-at slots (args .rules .now) (args .j)) (loop .m) (loop .inv .1) (sym (c .before .fields-agree .ensures) ∙ not-false _ (c .if1 .left)))
+loop-again c =
+    let args = c .before .before .before .before .before .before .before .args in
+    let loop = c .before .before .before .loop in
+    (search needs, mapped-next (fields-agree (constraint-at slots (args .rules .now) (args .i) (args .k))) (constraint-at slots (args .rules .now) (args .j)) (loop .m) (loop .inv .1) (sym (c .before .fields-agree .ensures) ∙ not-false _ (c .if1 .left)))
 
 returns-2 : tie.Need-returns-2 Inv-loop μ-loop
 unfolding agrees-with rule-at
-returns-2 c = let args = c .before .before .before .before .before .args in let loop = c .before .loop in let e : loop .m ≡ c .before .before .wide .result = omega arith in sym (loop .inv .1) ∙ ap (λ (n : ℕ). all (fields-agree (constraint-at slots (args .rules .now) (args .i) (args .k))) (map (constraint-at slots (args .rules .now) (args .j)) (upto n))) e ∙ (ap (λ (n : ℕ). all (fields-agree (constraint-at slots (args .rules .now) (args .i) (args .k))) (map (constraint-at slots (args .rules .now) (args .j)) (upto n))) (c .before .before .wide .ensures ∙ c .before .before .before .rule-word .ensures))
+returns-2 c =
+    let args = c .before .before .before .before .before .args in
+    let loop = c .before .loop in
+    let e : loop .m ≡ c .before .before .wide .result = omega arith in sym (loop .inv .1) ∙ ap (λ (n : ℕ). all (fields-agree (constraint-at slots (args .rules .now) (args .i) (args .k))) (map (constraint-at slots (args .rules .now) (args .j)) (upto n))) e ∙ (ap (λ (n : ℕ). all (fields-agree (constraint-at slots (args .rules .now) (args .i) (args .k))) (map (constraint-at slots (args .rules .now) (args .j)) (upto n))) (c .before .before .wide .ensures ∙ c .before .before .before .rule-word .ensures))
 
 pub agrees-with-spec : {M : Type 1} → statement M
 agrees-with-spec =

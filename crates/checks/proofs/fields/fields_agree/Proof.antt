@@ -30,7 +30,9 @@ rule-word-requires-2 : tie.Need-rule-word-requires-2
 rule-word-requires-2 c κs = search needs
 
 returns : tie.Need-returns
-returns c = let args = c .before .before .before .before .args in sym ((agree-is slots (args .rules .now) (λ x. c .before .before .before .shared-slice-known .given x .fits) (args .i) (args .k) (args .j) (args .m)) ∙ first-differs ((rule-word slots (args .rules .now) (args .i) (6 + 4 * args .k)) is (rule-word slots (args .rules .now) (args .j) (6 + 4 * args .m))) ((rule-word slots (args .rules .now) (args .i) (6 + 4 * args .k + 1)) is (rule-word slots (args .rules .now) (args .j) (6 + 4 * args .m + 1))) ((rule-word slots (args .rules .now) (args .i) (6 + 4 * args .k + 3)) is (rule-word slots (args .rules .now) (args .j) (6 + 4 * args .m + 3))) ((rule-word slots (args .rules .now) (args .i) (6 + 4 * args .k + 2)) is (rule-word slots (args .rules .now) (args .j) (6 + 4 * args .m + 2))) (ne-eqb _ _ (λ e. c .if1 .taken (c .before .before .rule-word .ensures ∙ e ∙ sym (c .before .rule-word2 .ensures)))))
+returns c =
+    let args = c .before .before .before .before .args in
+    sym ((agree-is slots (args .rules .now) (λ x. c .before .before .before .shared-slice-known .given x .fits) (args .i) (args .k) (args .j) (args .m)) ∙ first-differs ((rule-word slots (args .rules .now) (args .i) (6 + 4 * args .k)) is (rule-word slots (args .rules .now) (args .j) (6 + 4 * args .m))) ((rule-word slots (args .rules .now) (args .i) (6 + 4 * args .k + 1)) is (rule-word slots (args .rules .now) (args .j) (6 + 4 * args .m + 1))) ((rule-word slots (args .rules .now) (args .i) (6 + 4 * args .k + 3)) is (rule-word slots (args .rules .now) (args .j) (6 + 4 * args .m + 3))) ((rule-word slots (args .rules .now) (args .i) (6 + 4 * args .k + 2)) is (rule-word slots (args .rules .now) (args .j) (6 + 4 * args .m + 2))) (ne-eqb _ _ (λ e. c .if1 .taken (c .before .before .rule-word .ensures ∙ e ∙ sym (c .before .rule-word2 .ensures)))))
 
 add-rule-word : tie.Need-add-rule-word
 add-rule-word c = search needs
@@ -45,7 +47,9 @@ rule-word-requires-4 : tie.Need-rule-word-requires-4
 rule-word-requires-4 c κs = search needs
 
 returns-2 : tie.Need-returns-2
-returns-2 c = let args = c .before .before .before .before .before .before .before .args in sym ((agree-is slots (args .rules .now) (λ x. c .before .before .before .before .before .before .shared-slice-known .given x .fits) (args .i) (args .k) (args .j) (args .m)) ∙ second-differs ((rule-word slots (args .rules .now) (args .i) (6 + 4 * args .k)) is (rule-word slots (args .rules .now) (args .j) (6 + 4 * args .m))) ((rule-word slots (args .rules .now) (args .i) (6 + 4 * args .k + 1)) is (rule-word slots (args .rules .now) (args .j) (6 + 4 * args .m + 1))) ((rule-word slots (args .rules .now) (args .i) (6 + 4 * args .k + 3)) is (rule-word slots (args .rules .now) (args .j) (6 + 4 * args .m + 3))) ((rule-word slots (args .rules .now) (args .i) (6 + 4 * args .k + 2)) is (rule-word slots (args .rules .now) (args .j) (6 + 4 * args .m + 2))) (eq-eqb _ _ (sym (c .before .before .before .before .before .rule-word .ensures) ∙ c .before .before .before .if1 .left ∙ c .before .before .before .before .rule-word2 .ensures)) (ne-eqb _ _ (λ e. c .if2 .taken (c .before .before .rule-word3 .ensures ∙ e ∙ sym (c .before .rule-word4 .ensures)))))
+returns-2 c =
+    let args = c .before .before .before .before .before .before .before .args in
+    sym ((agree-is slots (args .rules .now) (λ x. c .before .before .before .before .before .before .shared-slice-known .given x .fits) (args .i) (args .k) (args .j) (args .m)) ∙ second-differs ((rule-word slots (args .rules .now) (args .i) (6 + 4 * args .k)) is (rule-word slots (args .rules .now) (args .j) (6 + 4 * args .m))) ((rule-word slots (args .rules .now) (args .i) (6 + 4 * args .k + 1)) is (rule-word slots (args .rules .now) (args .j) (6 + 4 * args .m + 1))) ((rule-word slots (args .rules .now) (args .i) (6 + 4 * args .k + 3)) is (rule-word slots (args .rules .now) (args .j) (6 + 4 * args .m + 3))) ((rule-word slots (args .rules .now) (args .i) (6 + 4 * args .k + 2)) is (rule-word slots (args .rules .now) (args .j) (6 + 4 * args .m + 2))) (eq-eqb _ _ (sym (c .before .before .before .before .before .rule-word .ensures) ∙ c .before .before .before .if1 .left ∙ c .before .before .before .before .rule-word2 .ensures)) (ne-eqb _ _ (λ e. c .if2 .taken (c .before .before .rule-word3 .ensures ∙ e ∙ sym (c .before .rule-word4 .ensures)))))
 
 add-rule-word-3 : tie.Need-add-rule-word-3
 add-rule-word-3 c = search needs
@@ -60,7 +64,9 @@ rule-word-requires-6 : tie.Need-rule-word-requires-6
 rule-word-requires-6 c κs = search needs
 
 returns-3 : tie.Need-returns-3
-returns-3 c = let args = c .before .before .before .before .before .before .before .before .before .before .args in sym ((agree-is slots (args .rules .now) (λ x. c .before .before .before .before .before .before .before .before .before .shared-slice-known .given x .fits) (args .i) (args .k) (args .j) (args .m)) ∙ third-differs ((rule-word slots (args .rules .now) (args .i) (6 + 4 * args .k)) is (rule-word slots (args .rules .now) (args .j) (6 + 4 * args .m))) ((rule-word slots (args .rules .now) (args .i) (6 + 4 * args .k + 1)) is (rule-word slots (args .rules .now) (args .j) (6 + 4 * args .m + 1))) ((rule-word slots (args .rules .now) (args .i) (6 + 4 * args .k + 3)) is (rule-word slots (args .rules .now) (args .j) (6 + 4 * args .m + 3))) ((rule-word slots (args .rules .now) (args .i) (6 + 4 * args .k + 2)) is (rule-word slots (args .rules .now) (args .j) (6 + 4 * args .m + 2))) (eq-eqb _ _ (sym (c .before .before .before .before .before .before .before .before .rule-word .ensures) ∙ c .before .before .before .before .before .before .if1 .left ∙ c .before .before .before .before .before .before .before .rule-word2 .ensures)) (eq-eqb _ _ (sym (c .before .before .before .before .before .rule-word3 .ensures) ∙ c .before .before .before .if2 .left ∙ c .before .before .before .before .rule-word4 .ensures)) (ne-eqb _ _ (λ e. c .if3 .taken (c .before .before .rule-word5 .ensures ∙ e ∙ sym (c .before .rule-word6 .ensures)))))
+returns-3 c =
+    let args = c .before .before .before .before .before .before .before .before .before .before .args in
+    sym ((agree-is slots (args .rules .now) (λ x. c .before .before .before .before .before .before .before .before .before .shared-slice-known .given x .fits) (args .i) (args .k) (args .j) (args .m)) ∙ third-differs ((rule-word slots (args .rules .now) (args .i) (6 + 4 * args .k)) is (rule-word slots (args .rules .now) (args .j) (6 + 4 * args .m))) ((rule-word slots (args .rules .now) (args .i) (6 + 4 * args .k + 1)) is (rule-word slots (args .rules .now) (args .j) (6 + 4 * args .m + 1))) ((rule-word slots (args .rules .now) (args .i) (6 + 4 * args .k + 3)) is (rule-word slots (args .rules .now) (args .j) (6 + 4 * args .m + 3))) ((rule-word slots (args .rules .now) (args .i) (6 + 4 * args .k + 2)) is (rule-word slots (args .rules .now) (args .j) (6 + 4 * args .m + 2))) (eq-eqb _ _ (sym (c .before .before .before .before .before .before .before .before .rule-word .ensures) ∙ c .before .before .before .before .before .before .if1 .left ∙ c .before .before .before .before .before .before .before .rule-word2 .ensures)) (eq-eqb _ _ (sym (c .before .before .before .before .before .rule-word3 .ensures) ∙ c .before .before .before .if2 .left ∙ c .before .before .before .before .rule-word4 .ensures)) (ne-eqb _ _ (λ e. c .if3 .taken (c .before .before .rule-word5 .ensures ∙ e ∙ sym (c .before .rule-word6 .ensures)))))
 
 add-rule-word-5 : tie.Need-add-rule-word-5
 add-rule-word-5 c = search needs
@@ -75,7 +81,9 @@ rule-word-requires-8 : tie.Need-rule-word-requires-8
 rule-word-requires-8 c κs = search needs
 
 returns-4 : tie.Need-returns-4
-returns-4 c = let args = c .before .before .before .before .before .before .before .before .before .before .before .before .args in ap₂ (λ x y. eqb x y) (c .before .rule-word7 .ensures) (c .rule-word8 .ensures) ∙ sym ((agree-is slots (args .rules .now) (λ x. c .before .before .before .before .before .before .before .before .before .before .before .shared-slice-known .given x .fits) (args .i) (args .k) (args .j) (args .m)) ∙ none-differs ((rule-word slots (args .rules .now) (args .i) (6 + 4 * args .k)) is (rule-word slots (args .rules .now) (args .j) (6 + 4 * args .m))) ((rule-word slots (args .rules .now) (args .i) (6 + 4 * args .k + 1)) is (rule-word slots (args .rules .now) (args .j) (6 + 4 * args .m + 1))) ((rule-word slots (args .rules .now) (args .i) (6 + 4 * args .k + 3)) is (rule-word slots (args .rules .now) (args .j) (6 + 4 * args .m + 3))) ((rule-word slots (args .rules .now) (args .i) (6 + 4 * args .k + 2)) is (rule-word slots (args .rules .now) (args .j) (6 + 4 * args .m + 2))) (eq-eqb _ _ (sym (c .before .before .before .before .before .before .before .before .before .before .rule-word .ensures) ∙ c .before .before .before .before .before .before .before .before .if1 .left ∙ c .before .before .before .before .before .before .before .before .before .rule-word2 .ensures)) (eq-eqb _ _ (sym (c .before .before .before .before .before .before .before .rule-word3 .ensures) ∙ c .before .before .before .before .before .if2 .left ∙ c .before .before .before .before .before .before .rule-word4 .ensures)) (eq-eqb _ _ (sym (c .before .before .before .before .rule-word5 .ensures) ∙ c .before .before .if3 .left ∙ c .before .before .before .rule-word6 .ensures)))
+returns-4 c =
+    let args = c .before .before .before .before .before .before .before .before .before .before .before .before .args in
+    ap₂ (λ x y. eqb x y) (c .before .rule-word7 .ensures) (c .rule-word8 .ensures) ∙ sym ((agree-is slots (args .rules .now) (λ x. c .before .before .before .before .before .before .before .before .before .before .before .shared-slice-known .given x .fits) (args .i) (args .k) (args .j) (args .m)) ∙ none-differs ((rule-word slots (args .rules .now) (args .i) (6 + 4 * args .k)) is (rule-word slots (args .rules .now) (args .j) (6 + 4 * args .m))) ((rule-word slots (args .rules .now) (args .i) (6 + 4 * args .k + 1)) is (rule-word slots (args .rules .now) (args .j) (6 + 4 * args .m + 1))) ((rule-word slots (args .rules .now) (args .i) (6 + 4 * args .k + 3)) is (rule-word slots (args .rules .now) (args .j) (6 + 4 * args .m + 3))) ((rule-word slots (args .rules .now) (args .i) (6 + 4 * args .k + 2)) is (rule-word slots (args .rules .now) (args .j) (6 + 4 * args .m + 2))) (eq-eqb _ _ (sym (c .before .before .before .before .before .before .before .before .before .before .rule-word .ensures) ∙ c .before .before .before .before .before .before .before .before .if1 .left ∙ c .before .before .before .before .before .before .before .before .before .rule-word2 .ensures)) (eq-eqb _ _ (sym (c .before .before .before .before .before .before .before .rule-word3 .ensures) ∙ c .before .before .before .before .before .if2 .left ∙ c .before .before .before .before .before .before .rule-word4 .ensures)) (eq-eqb _ _ (sym (c .before .before .before .before .rule-word5 .ensures) ∙ c .before .before .if3 .left ∙ c .before .before .before .rule-word6 .ensures)))
 
 pub fields-agree-spec : {M : Type 1} → statement M
 fields-agree-spec =

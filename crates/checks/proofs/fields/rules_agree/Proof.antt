@@ -9,9 +9,8 @@ use borrow.Author.Tests.{not-true, not-false}
 use Rattle.checks.specs.Words.{rules-agree}
 use Rattle.definition.specs.Accept.{agrees-with}
 use Rattle.definition.specs.Book.{slots}
-use Rattle.definition.specs.Choice.{count}
 use Rattle.definition.specs.Lists.{upto, all}
-use Rattle.definition.specs.Tables.{rule-word, constraint-at, rule-at}
+use Rattle.definition.specs.Tables.{constraint-at, rule-at}
 use Rattle.laws.specs.Turns.{mapped-next, mapped-stop}
 use Rattle.checks.proofs.fields.rules_agree.Statement.{statement}
 use Rattle.checks.proofs.fields.rules_agree.Tie as tie
@@ -36,7 +35,9 @@ agrees-with-requires c κs = search needs
 
 returns : tie.Need-returns Inv-loop μ-loop
 unfolding rules-agree rule-at
-returns c = let args = c .before .before .before .before .before .before .before .args in sym (mapped-stop (agrees-with (rule-at slots (args .rules .now) (args .j) .constraints)) (constraint-at slots (args .rules .now) (args .i)) (c .before .before .before .before .wide .result) (c .before .before .before .loop .k) (c .before .before .loop-test .taken) (sym (c .before .agrees-with .ensures) ∙ not-true _ (c .if1 .taken))) ∙ (ap (λ (n : ℕ). all (agrees-with (rule-at slots (args .rules .now) (args .j) .constraints)) (map (constraint-at slots (args .rules .now) (args .i)) (upto n))) (c .before .before .before .before .wide .ensures ∙ c .before .before .before .before .before .rule-word .ensures))
+returns c =
+    let args = c .before .before .before .before .before .before .before .args in
+    sym (mapped-stop (agrees-with (rule-at slots (args .rules .now) (args .j) .constraints)) (constraint-at slots (args .rules .now) (args .i)) (c .before .before .before .before .wide .result) (c .before .before .before .loop .k) (c .before .before .loop-test .taken) (sym (c .before .agrees-with .ensures) ∙ not-true _ (c .if1 .taken))) ∙ (ap (λ (n : ℕ). all (agrees-with (rule-at slots (args .rules .now) (args .j) .constraints)) (map (constraint-at slots (args .rules .now) (args .i)) (upto n))) (c .before .before .before .before .wide .ensures ∙ c .before .before .before .before .before .rule-word .ensures))
 
 add-k : tie.Need-add-k Inv-loop μ-loop
 add-k c = search needs
@@ -45,11 +46,17 @@ loop-less : tie.Need-loop-less Inv-loop μ-loop
 loop-less c = search needs
 
 loop-again : tie.Need-loop-again Inv-loop μ-loop
-loop-again c = let args = c .before .before .before .before .before .before .before .args in let loop = c .before .before .before .loop in (search needs, mapped-next (agrees-with (rule-at slots (args .rules .now) (args .j) .constraints)) (constraint-at slots (args .rules .now) (args .i)) (loop .k) (loop .inv .1) (sym (c .before .agrees-with .ensures) ∙ not-false _ (c .if1 .left)))
+loop-again c =
+    let args = c .before .before .before .before .before .before .before .args in
+    let loop = c .before .before .before .loop in
+    (search needs, mapped-next (agrees-with (rule-at slots (args .rules .now) (args .j) .constraints)) (constraint-at slots (args .rules .now) (args .i)) (loop .k) (loop .inv .1) (sym (c .before .agrees-with .ensures) ∙ not-false _ (c .if1 .left)))
 
 returns-2 : tie.Need-returns-2 Inv-loop μ-loop
 unfolding rules-agree rule-at
-returns-2 c = let args = c .before .before .before .before .before .args in let loop = c .before .loop in let e : loop .k ≡ c .before .before .wide .result = omega arith in sym (loop .inv .1) ∙ ap (λ (n : ℕ). all (agrees-with (rule-at slots (args .rules .now) (args .j) .constraints)) (map (constraint-at slots (args .rules .now) (args .i)) (upto n))) e ∙ (ap (λ (n : ℕ). all (agrees-with (rule-at slots (args .rules .now) (args .j) .constraints)) (map (constraint-at slots (args .rules .now) (args .i)) (upto n))) (c .before .before .wide .ensures ∙ c .before .before .before .rule-word .ensures))
+returns-2 c =
+    let args = c .before .before .before .before .before .args in
+    let loop = c .before .loop in
+    let e : loop .k ≡ c .before .before .wide .result = omega arith in sym (loop .inv .1) ∙ ap (λ (n : ℕ). all (agrees-with (rule-at slots (args .rules .now) (args .j) .constraints)) (map (constraint-at slots (args .rules .now) (args .i)) (upto n))) e ∙ (ap (λ (n : ℕ). all (agrees-with (rule-at slots (args .rules .now) (args .j) .constraints)) (map (constraint-at slots (args .rules .now) (args .i)) (upto n))) (c .before .before .wide .ensures ∙ c .before .before .before .rule-word .ensures))
 
 pub rules-agree-spec : {M : Type 1} → statement M
 rules-agree-spec =

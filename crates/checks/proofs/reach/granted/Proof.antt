@@ -7,9 +7,8 @@ use native.Mathlib.Omega.{arith}
 use borrow.Author.Needs.{needs}
 use Rattle.definition.specs.Accept.{grants, granted}
 use Rattle.definition.specs.Book.{slots}
-use Rattle.definition.specs.Choice.{count}
 use Rattle.definition.specs.Lists.{upto, any}
-use Rattle.definition.specs.Tables.{site-at, rule-word, constraint-at, rule-at}
+use Rattle.definition.specs.Tables.{site-at, constraint-at, rule-at}
 use Rattle.laws.specs.Turns.{search-next, search-hit}
 use Rattle.checks.proofs.reach.granted.Statement.{statement}
 use Rattle.checks.proofs.reach.granted.Tie as tie
@@ -34,7 +33,9 @@ grants-requires c κs = search needs
 
 returns : tie.Need-returns Inv-loop μ-loop
 unfolding granted rule-at
-returns c = let args = c .before .before .before .before .before .before .before .before .args in sym (search-hit (grants (site-at (args .sites .now) (args .s))) (constraint-at slots (args .rules .now) (args .i)) (c .before .before .before .before .wide .result) (c .before .before .before .loop .k) (c .before .before .loop-test .taken) (sym (c .before .grants .ensures) ∙ c .if1 .taken)) ∙ (ap (λ (n : ℕ). any (grants (site-at (args .sites .now) (args .s))) (map (constraint-at slots (args .rules .now) (args .i)) (upto n))) (c .before .before .before .before .wide .ensures ∙ c .before .before .before .before .before .rule-word .ensures))
+returns c =
+    let args = c .before .before .before .before .before .before .before .before .args in
+    sym (search-hit (grants (site-at (args .sites .now) (args .s))) (constraint-at slots (args .rules .now) (args .i)) (c .before .before .before .before .wide .result) (c .before .before .before .loop .k) (c .before .before .loop-test .taken) (sym (c .before .grants .ensures) ∙ c .if1 .taken)) ∙ (ap (λ (n : ℕ). any (grants (site-at (args .sites .now) (args .s))) (map (constraint-at slots (args .rules .now) (args .i)) (upto n))) (c .before .before .before .before .wide .ensures ∙ c .before .before .before .before .before .rule-word .ensures))
 
 add-k : tie.Need-add-k Inv-loop μ-loop
 add-k c = search needs
@@ -43,11 +44,17 @@ loop-less : tie.Need-loop-less Inv-loop μ-loop
 loop-less c = search needs
 
 loop-again : tie.Need-loop-again Inv-loop μ-loop
-loop-again c = let args = c .before .before .before .before .before .before .before .before .args in let loop = c .before .before .before .loop in (search needs, search-next (grants (site-at (args .sites .now) (args .s))) (constraint-at slots (args .rules .now) (args .i)) (loop .k) (loop .inv .1) (sym (c .before .grants .ensures) ∙ c .if1 .left))
+loop-again c =
+    let args = c .before .before .before .before .before .before .before .before .args in
+    let loop = c .before .before .before .loop in
+    (search needs, search-next (grants (site-at (args .sites .now) (args .s))) (constraint-at slots (args .rules .now) (args .i)) (loop .k) (loop .inv .1) (sym (c .before .grants .ensures) ∙ c .if1 .left))
 
 returns-2 : tie.Need-returns-2 Inv-loop μ-loop
 unfolding granted rule-at
-returns-2 c = let args = c .before .before .before .before .before .before .args in let loop = c .before .loop in let e : loop .k ≡ c .before .before .wide .result = omega arith in sym (loop .inv .1) ∙ ap (λ (n : ℕ). any (grants (site-at (args .sites .now) (args .s))) (map (constraint-at slots (args .rules .now) (args .i)) (upto n))) e ∙ (ap (λ (n : ℕ). any (grants (site-at (args .sites .now) (args .s))) (map (constraint-at slots (args .rules .now) (args .i)) (upto n))) (c .before .before .wide .ensures ∙ c .before .before .before .rule-word .ensures))
+returns-2 c =
+    let args = c .before .before .before .before .before .before .args in
+    let loop = c .before .loop in
+    let e : loop .k ≡ c .before .before .wide .result = omega arith in sym (loop .inv .1) ∙ ap (λ (n : ℕ). any (grants (site-at (args .sites .now) (args .s))) (map (constraint-at slots (args .rules .now) (args .i)) (upto n))) e ∙ (ap (λ (n : ℕ). any (grants (site-at (args .sites .now) (args .s))) (map (constraint-at slots (args .rules .now) (args .i)) (upto n))) (c .before .before .wide .ensures ∙ c .before .before .before .rule-word .ensures))
 
 pub granted-spec : {M : Type 1} → statement M
 granted-spec =

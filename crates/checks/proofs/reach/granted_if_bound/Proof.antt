@@ -3,7 +3,6 @@ use mathlib.Core.Path.{_≡_, sym, _∙_}
 use native.Mathlib.Omega.{arith}
 use borrow.Author.Needs.{needs}
 use borrow.Author.Tests.{eq-eqb, ne-eqb}
-use Rattle.definition.specs.Accept.{granted}
 use Rattle.definition.specs.Tables.{site-word, site-at}
 use Rattle.checks.proofs.reach.granted_if_bound.Statement.{statement}
 use Rattle.checks.proofs.reach.granted_if_bound.Tie as tie
@@ -16,7 +15,10 @@ unfolding site-at
 returns c = sym (rw (ne-eqb _ _ (λ e. c .if1 .taken (c .before .site-word .ensures ∙ e))))
 
 granted-requires : tie.Need-granted-requires
-granted-requires c κs = let args = c .before .before .before .before .args in let pre = c .before .before .before .before .pre in let e : site-word (args .sites .now) (args .s) 0 ≡ 7 = sym (c .before .site-word .ensures) ∙ c .if1 .left in (omega arith, e, pre .1 .one e, omega arith, pre .3)
+granted-requires c κs =
+    let args = c .before .before .before .before .args in
+    let pre = c .before .before .before .before .pre in
+    let e : site-word (args .sites .now) (args .s) 0 ≡ 7 = sym (c .before .site-word .ensures) ∙ c .if1 .left in (omega arith, e, pre .1 .one e, omega arith, pre .3)
 
 returns-2 : tie.Need-returns-2
 unfolding site-at

@@ -8,7 +8,6 @@ use lib.ListN.{length, set}
 use Rattle.checks.proofs.Marking.{marked-nothing, marked-more}
 use Rattle.checks.specs.Marks.{stepped, Marked}
 use Rattle.definition.specs.Lists.{upto}
-use Rattle.definition.specs.Tree.{words}
 use Rattle.checks.proofs.reach.mark.Statement.{statement}
 use Rattle.checks.proofs.reach.mark.Tie as tie
 
@@ -48,13 +47,19 @@ loop-less c = search needs
 
 loop-again : tie.Need-loop-again Inv-loop μ-loop
 unfolding stepped
-loop-again c = let args = c .before .before .before .before .before .before .args in let loop = c .before .before .before .loop in (search needs, search needs, subst (λ (s : ℕ). Marked (args .limit) (map (stepped (args .words .now) (args .at) (args .step)) (upto (loop .k + 1))) (args .marks .now) (set (loop .marks) s 1)) (sym (c .wide .ensures)) (marked-more (stepped (args .words .now) (args .at) (args .step)) (loop .k) (loop .inv .2) ((c .before .before .before .before .before .before .pre .2 (loop .k) (c .before .before .loop-test .taken)) .1) (omega arith)))
+loop-again c =
+    let args = c .before .before .before .before .before .before .args in
+    let loop = c .before .before .before .loop in
+    (search needs, search needs, subst (λ (s : ℕ). Marked (args .limit) (map (stepped (args .words .now) (args .at) (args .step)) (upto (loop .k + 1))) (args .marks .now) (set (loop .marks) s 1)) (sym (c .wide .ensures)) (marked-more (stepped (args .words .now) (args .at) (args .step)) (loop .k) (loop .inv .2) ((c .before .before .before .before .before .before .pre .2 (loop .k) (c .before .before .loop-test .taken)) .1) (omega arith)))
 
 same-length : tie.Need-same-length Inv-loop μ-loop
 same-length c = search needs
 
 returns : tie.Need-returns Inv-loop μ-loop
-returns c = let args = c .before .before .before .before .args in let loop = c .before .loop in let e : loop .k ≡ args .n = omega arith in subst (λ (n : ℕ). Marked (args .limit) (map (stepped (args .words .now) (args .at) (args .step)) (upto n)) (args .marks .now) (loop .marks)) e (loop .inv .2)
+returns c =
+    let args = c .before .before .before .before .args in
+    let loop = c .before .loop in
+    let e : loop .k ≡ args .n = omega arith in subst (λ (n : ℕ). Marked (args .limit) (map (stepped (args .words .now) (args .at) (args .step)) (upto n)) (args .marks .now) (loop .marks)) e (loop .inv .2)
 
 pub mark-spec : {M : Type 1} → statement M
 mark-spec =

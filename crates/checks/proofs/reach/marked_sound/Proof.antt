@@ -9,8 +9,6 @@ use Rattle.checks.proofs.Visits.{visit-fails, visit-passes}
 use Rattle.checks.specs.Marks.{pending}
 use Rattle.definition.specs.Accept.{sound-from}
 use Rattle.definition.specs.Book.{slots}
-use Rattle.definition.specs.Choice.{count}
-use Rattle.definition.specs.Lists.{each}
 use Rattle.definition.specs.Tables.{rule-at, book-of}
 use Rattle.checks.proofs.reach.marked_sound.Statement.{statement}
 use Rattle.checks.proofs.reach.marked_sound.Tie as tie
@@ -28,26 +26,37 @@ sub-s : tie.Need-sub-s Inv-loop μ-loop
 sub-s c = search needs
 
 visit-requires : tie.Need-visit-requires Inv-loop μ-loop
-visit-requires c κs = let pre = c .before .before .before .before .before .before .pre in (omega arith, omega arith, omega arith, pre .3 .each (c .before .before .loop .s - 1) (omega arith), pre .4, pre .5)
+visit-requires c κs =
+    let pre = c .before .before .before .before .before .before .pre in
+    (omega arith, omega arith, omega arith, pre .3 .each (c .before .before .loop .s - 1) (omega arith), pre .4, pre .5)
 
 same-length : tie.Need-same-length Inv-loop μ-loop
 same-length c = search needs
 
 returns : tie.Need-returns Inv-loop μ-loop
-returns c = let args = c .before .before .before .before .before .before .before .before .before .before .args in let loop = c .before .before .before .before .before .before .loop in λ R. sym (sym (loop .inv .2 R) ∙ visit-fails slots (args .count) R (args .sites .now) (args .rules .now) (args .i) (loop .s - 1) (loop .s) (loop .marks) _ (c .before .before .before .visit .result) (c .before .before .before .visit .ensures) (omega arith) (c .before .before .before .before .before .before .before .before .before .before .pre .3) (omega arith) (not-true (c .before .before .before .visit .result) (c .if1 .taken)))
+returns c =
+    let args = c .before .before .before .before .before .before .before .before .before .before .args in
+    let loop = c .before .before .before .before .before .before .loop in
+    λ R. sym (sym (loop .inv .2 R) ∙ visit-fails slots (args .count) R (args .sites .now) (args .rules .now) (args .i) (loop .s - 1) (loop .s) (loop .marks) _ (c .before .before .before .visit .result) (c .before .before .before .visit .ensures) (omega arith) (c .before .before .before .before .before .before .before .before .before .before .pre .3) (omega arith) (not-true (c .before .before .before .visit .result) (c .if1 .taken)))
 
 loop-less : tie.Need-loop-less Inv-loop μ-loop
 loop-less c = search needs
 
 loop-again : tie.Need-loop-again Inv-loop μ-loop
-loop-again c = let args = c .before .before .before .before .before .before .before .before .before .before .args in let loop = c .before .before .before .before .before .before .loop in (search needs, search needs, λ R. sym (sym (loop .inv .2 R) ∙ visit-passes slots (args .count) R (args .sites .now) (args .rules .now) (args .i) (loop .s - 1) (loop .s) (loop .marks) _ (c .before .before .before .visit .result) (c .before .before .before .visit .ensures) (omega arith) (c .before .before .before .before .before .before .before .before .before .before .pre .3) (omega arith) (not-false (c .before .before .before .visit .result) (c .if1 .left))))
+loop-again c =
+    let args = c .before .before .before .before .before .before .before .before .before .before .args in
+    let loop = c .before .before .before .before .before .before .loop in
+    (search needs, search needs, λ R. sym (sym (loop .inv .2 R) ∙ visit-passes slots (args .count) R (args .sites .now) (args .rules .now) (args .i) (loop .s - 1) (loop .s) (loop .marks) _ (c .before .before .before .visit .result) (c .before .before .before .visit .ensures) (omega arith) (c .before .before .before .before .before .before .before .before .before .before .pre .3) (omega arith) (not-false (c .before .before .before .visit .result) (c .if1 .left))))
 
 same-length-2 : tie.Need-same-length-2 Inv-loop μ-loop
 same-length-2 c = search needs
 
 returns-2 : tie.Need-returns-2 Inv-loop μ-loop
 unfolding pending
-returns-2 c = let args = c .before .before .before .before .before .args in let loop = c .before .loop in λ R. let e : loop .s ≡ 0 = omega arith in sym (sym (loop .inv .2 R) ∙ ap (pending (sound-from (book-of slots (args .count) R (args .sites .now) (args .rules .now)) (rule-at slots (args .rules .now) (args .i))) (loop .marks)) e)
+returns-2 c =
+    let args = c .before .before .before .before .before .args in
+    let loop = c .before .loop in
+    λ R. let e : loop .s ≡ 0 = omega arith in sym (sym (loop .inv .2 R) ∙ ap (pending (sound-from (book-of slots (args .count) R (args .sites .now) (args .rules .now)) (rule-at slots (args .rules .now) (args .i))) (loop .marks)) e)
 
 pub marked-sound-spec : {M : Type 1} → statement M
 marked-sound-spec =

@@ -8,7 +8,6 @@ use Rattle.checks.proofs.RuleTests.{counts-fit}
 use Rattle.checks.specs.Marks.{pending}
 use Rattle.definition.specs.Accept.{sound-from, sound}
 use Rattle.definition.specs.Book.{slots}
-use Rattle.definition.specs.Choice.{count}
 use Rattle.definition.specs.Tables.{rule-at, book-of}
 use Rattle.laws.specs.Answers.{and-rest}
 use Rattle.checks.proofs.reach.sound.Statement.{statement}
@@ -27,11 +26,15 @@ slice-aggregate-marked-sound : tie.Need-slice-aggregate-marked-sound
 slice-aggregate-marked-sound c = search needs
 
 marked-sound-requires : tie.Need-marked-sound-requires
-marked-sound-requires c κs = let args = c .before .before .before .before .before .before .before .args in (search needs, search needs, search needs, search needs, search needs, counts-fit slots (args .count) (args .rules .now) (args .i) (c .before .before .before .before .before .before .before .pre .4))
+marked-sound-requires c κs =
+    let args = c .before .before .before .before .before .before .before .args in
+    (search needs, search needs, search needs, search needs, search needs, counts-fit slots (args .count) (args .rules .now) (args .i) (c .before .before .before .before .before .before .before .pre .4))
 
 returns : tie.Need-returns
 unfolding sound
-returns c = let args = c .before .before .before .before .before .before .before .before .before .args in λ R. c .before .marked-sound .ensures R ∙ c .before .before .before .before .mark-named .ensures .judged (sound-from (book-of slots (args .count) R (args .sites .now) (args .rules .now)) (rule-at slots (args .rules .now) (args .i))) ∙ and-rest (ap (λ (m : List ℕ). pending (sound-from (book-of slots (args .count) R (args .sites .now) (args .rules .now)) (rule-at slots (args .rules .now) (args .i))) m (args .count)) (c .before .before .before .before .before .before .no-marks .ensures) ∙ pending-none (sound-from (book-of slots (args .count) R (args .sites .now) (args .rules .now)) (rule-at slots (args .rules .now) (args .i))) 252 (args .count)) refl
+returns c =
+    let args = c .before .before .before .before .before .before .before .before .before .args in
+    λ R. c .before .marked-sound .ensures R ∙ c .before .before .before .before .mark-named .ensures .judged (sound-from (book-of slots (args .count) R (args .sites .now) (args .rules .now)) (rule-at slots (args .rules .now) (args .i))) ∙ and-rest (ap (λ (m : List ℕ). pending (sound-from (book-of slots (args .count) R (args .sites .now) (args .rules .now)) (rule-at slots (args .rules .now) (args .i))) m (args .count)) (c .before .before .before .before .before .before .no-marks .ensures) ∙ pending-none (sound-from (book-of slots (args .count) R (args .sites .now) (args .rules .now)) (rule-at slots (args .rules .now) (args .i))) 252 (args .count)) refl
 
 pub sound-spec : {M : Type 1} → statement M
 sound-spec =

@@ -5,9 +5,8 @@ use mathlib.Core.List.{List, map}
 use native.Mathlib.Omega.{arith}
 use borrow.Author.Needs.{needs}
 use borrow.Author.Tests.{eq-eqb, ne-eqb}
-use Rattle.definition.specs.Book.{slots, site, is-on}
-use Rattle.definition.specs.Choice.{count}
-use Rattle.definition.specs.Lists.{from, any, first}
+use Rattle.definition.specs.Book.{slots, is-on}
+use Rattle.definition.specs.Lists.{from, any}
 use Rattle.definition.specs.Tables.{rule-word, constraint-at}
 use Rattle.laws.specs.Turns.{from-head, from-end}
 use Rattle.checks.proofs.rules.constrained_from.Statement.{statement}
@@ -33,7 +32,10 @@ rule-word-requires c κs = search needs
 
 returns : tie.Need-returns Inv-loop μ-loop
 unfolding is-on constraint-at
-returns c = let args = c .before .before .before .before .before .args in let loop = c .before .before .before .loop in sym (sym (loop .inv .2) ∙ rw ((from-head (loop .j) (args .count) (c .before .before .loop-test .taken)), eq-eqb (rule-word slots (args .rules .now) (args .i) (6 + 4 * loop .j)) (args .site) (omega arith)))
+returns c =
+    let args = c .before .before .before .before .before .args in
+    let loop = c .before .before .before .loop in
+    sym (sym (loop .inv .2) ∙ rw ((from-head (loop .j) (args .count) (c .before .before .loop-test .taken)), eq-eqb (rule-word slots (args .rules .now) (args .i) (6 + 4 * loop .j)) (args .site) (omega arith)))
 
 add-j : tie.Need-add-j Inv-loop μ-loop
 add-j c = search needs
@@ -43,10 +45,16 @@ loop-less c = search needs
 
 loop-again : tie.Need-loop-again Inv-loop μ-loop
 unfolding is-on constraint-at
-loop-again c = let args = c .before .before .before .before .before .args in let loop = c .before .before .before .loop in (search needs, search needs, sym (rw ((from-head (loop .j) (args .count) (c .before .before .loop-test .taken)), ne-eqb (rule-word slots (args .rules .now) (args .i) (6 + 4 * loop .j)) (args .site) (λ e. c .if1 .left (c .before .rule-word .ensures ∙ e)))) ∙ loop .inv .2)
+loop-again c =
+    let args = c .before .before .before .before .before .args in
+    let loop = c .before .before .before .loop in
+    (search needs, search needs, sym (rw ((from-head (loop .j) (args .count) (c .before .before .loop-test .taken)), ne-eqb (rule-word slots (args .rules .now) (args .i) (6 + 4 * loop .j)) (args .site) (λ e. c .if1 .left (c .before .rule-word .ensures ∙ e)))) ∙ loop .inv .2)
 
 returns-2 : tie.Need-returns-2 Inv-loop μ-loop
-returns-2 c = let args = c .before .before .before .args in let loop = c .before .loop in sym (sym (loop .inv .2) ∙ ap (λ (l : List ℕ). any (is-on (args .site)) (map (constraint-at slots (args .rules .now) (args .i)) l)) (from-end (loop .j) (args .count) (c .loop-test .left)))
+returns-2 c =
+    let args = c .before .before .before .args in
+    let loop = c .before .loop in
+    sym (sym (loop .inv .2) ∙ ap (λ (l : List ℕ). any (is-on (args .site)) (map (constraint-at slots (args .rules .now) (args .i)) l)) (from-end (loop .j) (args .count) (c .loop-test .left)))
 
 pub constrained-from-spec : {M : Type 1} → statement M
 constrained-from-spec =

@@ -7,9 +7,8 @@ use native.Mathlib.Omega.{arith}
 use borrow.Author.Needs.{needs}
 use Rattle.definition.specs.Accept.{once}
 use Rattle.definition.specs.Book.{slots, is-on}
-use Rattle.definition.specs.Choice.{count}
 use Rattle.definition.specs.Lists.{from, upto, any}
-use Rattle.definition.specs.Tables.{rule-word, constraint-at}
+use Rattle.definition.specs.Tables.{constraint-at}
 use Rattle.laws.specs.Answers.{and-first, and-rest}
 use Rattle.laws.specs.Turns.{from-head, from-end}
 use Rattle.checks.proofs.rules.constrained_once.Statement.{statement}
@@ -22,7 +21,9 @@ abbrev μ-loop : tie.MeasureT-loop
 μ-loop rules i count k₀ k = count - k
 
 loop-holds : tie.Need-loop-holds Inv-loop μ-loop
-loop-holds c = let args = c .before .args in let e : args .count - 0 ≡ args .count = omega arith in (omega arith, ap (λ (n : ℕ). once (map (constraint-at slots (args .rules .now) (args .i)) (upto n))) e)
+loop-holds c =
+    let args = c .before .args in
+    let e : args .count - 0 ≡ args .count = omega arith in (omega arith, ap (λ (n : ℕ). once (map (constraint-at slots (args .rules .now) (args .i)) (upto n))) e)
 
 add-constrained-from : tie.Need-add-constrained-from Inv-loop μ-loop
 add-constrained-from c = search needs
@@ -41,7 +42,10 @@ constrained-from-requires c κs = search needs
 
 returns : tie.Need-returns Inv-loop μ-loop
 unfolding constraint-at
-returns c = let args = c .before .before .before .before .before .before .args in let loop = c .before .before .before .before .loop in sym (sym (loop .inv .1) ∙ (ap (λ (l : List ℕ). once (map (constraint-at slots (args .rules .now) (args .i)) l)) (from-head (loop .k) (args .count) (c .before .before .before .loop-test .taken))) ∙ and-first _ (ap not ((ap (λ (s : ℕ). any (is-on s) (map (constraint-at slots (args .rules .now) (args .i)) (from (loop .k + 1) (args .count - (loop .k + 1))))) (sym (c .before .before .rule-word .ensures)) ∙ sym (c .before .constrained-from .ensures)) ∙ c .if1 .taken)))
+returns c =
+    let args = c .before .before .before .before .before .before .args in
+    let loop = c .before .before .before .before .loop in
+    sym (sym (loop .inv .1) ∙ (ap (λ (l : List ℕ). once (map (constraint-at slots (args .rules .now) (args .i)) l)) (from-head (loop .k) (args .count) (c .before .before .before .loop-test .taken))) ∙ and-first _ (ap not ((ap (λ (s : ℕ). any (is-on s) (map (constraint-at slots (args .rules .now) (args .i)) (from (loop .k + 1) (args .count - (loop .k + 1))))) (sym (c .before .before .rule-word .ensures)) ∙ sym (c .before .constrained-from .ensures)) ∙ c .if1 .taken)))
 
 add-k : tie.Need-add-k Inv-loop μ-loop
 add-k c = search needs
@@ -51,10 +55,16 @@ loop-less c = search needs
 
 loop-again : tie.Need-loop-again Inv-loop μ-loop
 unfolding constraint-at
-loop-again c = let args = c .before .before .before .before .before .before .args in let loop = c .before .before .before .before .loop in (search needs, sym (sym (loop .inv .1) ∙ (ap (λ (l : List ℕ). once (map (constraint-at slots (args .rules .now) (args .i)) l)) (from-head (loop .k) (args .count) (c .before .before .before .loop-test .taken))) ∙ and-rest (ap not ((ap (λ (s : ℕ). any (is-on s) (map (constraint-at slots (args .rules .now) (args .i)) (from (loop .k + 1) (args .count - (loop .k + 1))))) (sym (c .before .before .rule-word .ensures)) ∙ sym (c .before .constrained-from .ensures)) ∙ c .if1 .left)) refl))
+loop-again c =
+    let args = c .before .before .before .before .before .before .args in
+    let loop = c .before .before .before .before .loop in
+    (search needs, sym (sym (loop .inv .1) ∙ (ap (λ (l : List ℕ). once (map (constraint-at slots (args .rules .now) (args .i)) l)) (from-head (loop .k) (args .count) (c .before .before .before .loop-test .taken))) ∙ and-rest (ap not ((ap (λ (s : ℕ). any (is-on s) (map (constraint-at slots (args .rules .now) (args .i)) (from (loop .k + 1) (args .count - (loop .k + 1))))) (sym (c .before .before .rule-word .ensures)) ∙ sym (c .before .constrained-from .ensures)) ∙ c .if1 .left)) refl))
 
 returns-2 : tie.Need-returns-2 Inv-loop μ-loop
-returns-2 c = let args = c .before .before .before .args in let loop = c .before .loop in sym (sym (loop .inv .1) ∙ ap (λ (l : List ℕ). once (map (constraint-at slots (args .rules .now) (args .i)) l)) (from-end (loop .k) (args .count) (c .loop-test .left)))
+returns-2 c =
+    let args = c .before .before .before .args in
+    let loop = c .before .loop in
+    sym (sym (loop .inv .1) ∙ ap (λ (l : List ℕ). once (map (constraint-at slots (args .rules .now) (args .i)) l)) (from-end (loop .k) (args .count) (c .loop-test .left)))
 
 pub constrained-once-spec : {M : Type 1} → statement M
 constrained-once-spec =

@@ -21,7 +21,9 @@ rule-word-requires : tie.Need-rule-word-requires
 rule-word-requires c κs = search needs
 
 returns : tie.Need-returns
-returns c = let args = c .before .before .before .args in sym ((constraint-is slots (args .sites) (args .rules .now) (λ k. c .before .before .shared-slice-known .given k .fits) (args .i) (args .k)) ∙ and-first _ (le-ltb (rule-word slots (args .rules .now) (args .i) (6 + 4 * args .k)) (args .sites) (omega arith)))
+returns c =
+    let args = c .before .before .before .args in
+    sym ((constraint-is slots (args .sites) (args .rules .now) (λ k. c .before .before .shared-slice-known .given k .fits) (args .i) (args .k)) ∙ and-first _ (le-ltb (rule-word slots (args .rules .now) (args .i) (6 + 4 * args .k)) (args .sites) (omega arith)))
 
 add-rule-word : tie.Need-add-rule-word
 add-rule-word c = search needs
@@ -45,7 +47,9 @@ pattern-ok-requires : tie.Need-pattern-ok-requires
 pattern-ok-requires c κs = search needs
 
 returns-2 : tie.Need-returns-2
-returns-2 c = let args = c .before .before .before .before .before .before .before .args in sym ((constraint-is slots (args .sites) (args .rules .now) (λ k. c .before .before .before .before .before .before .shared-slice-known .given k .fits) (args .i) (args .k)) ∙ and-rest (lt-ltb (rule-word slots (args .rules .now) (args .i) (6 + 4 * args .k)) (args .sites) (omega arith)) (cc))
+returns-2 c =
+    let args = c .before .before .before .before .before .before .before .args in
+    sym ((constraint-is slots (args .sites) (args .rules .now) (λ k. c .before .before .before .before .before .before .shared-slice-known .given k .fits) (args .i) (args .k)) ∙ and-rest (lt-ltb (rule-word slots (args .rules .now) (args .i) (6 + 4 * args .k)) (args .sites) (omega arith)) (cc))
 
 pub constraint-ok-spec : {M : Type 1} → statement M
 constraint-ok-spec =

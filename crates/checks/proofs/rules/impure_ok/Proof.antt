@@ -8,7 +8,6 @@ use borrow.Author.Needs.{needs}
 use borrow.Author.Tests.{lt-ltb, le-ltb}
 use Rattle.definition.specs.Accept.{smaller-than}
 use Rattle.definition.specs.Book.{slots}
-use Rattle.definition.specs.Choice.{count}
 use Rattle.definition.specs.Lists.{upto, all}
 use Rattle.definition.specs.Tables.{impure-at}
 use Rattle.laws.specs.Turns.{mapped-next, mapped-stop}
@@ -32,7 +31,10 @@ rule-word-requires c κs = search needs
 
 returns : tie.Need-returns Inv-loop μ-loop
 unfolding smaller-than impure-at
-returns c = let args = c .before .before .before .before .before .args in let loop = c .before .before .before .loop in sym (mapped-stop (smaller-than (args .sites)) (impure-at slots (args .rules .now) (args .i)) (args .count) (loop .k) (c .before .before .loop-test .taken) (le-ltb ((impure-at slots (args .rules .now) (args .i)) (loop .k)) (args .sites) (omega arith)))
+returns c =
+    let args = c .before .before .before .before .before .args in
+    let loop = c .before .before .before .loop in
+    sym (mapped-stop (smaller-than (args .sites)) (impure-at slots (args .rules .now) (args .i)) (args .count) (loop .k) (c .before .before .loop-test .taken) (le-ltb ((impure-at slots (args .rules .now) (args .i)) (loop .k)) (args .sites) (omega arith)))
 
 add-k : tie.Need-add-k Inv-loop μ-loop
 add-k c = search needs
@@ -42,10 +44,16 @@ loop-less c = search needs
 
 loop-again : tie.Need-loop-again Inv-loop μ-loop
 unfolding smaller-than impure-at
-loop-again c = let args = c .before .before .before .before .before .args in let loop = c .before .before .before .loop in (search needs, mapped-next (smaller-than (args .sites)) (impure-at slots (args .rules .now) (args .i)) (loop .k) (loop .inv .1) (lt-ltb ((impure-at slots (args .rules .now) (args .i)) (loop .k)) (args .sites) (omega arith)))
+loop-again c =
+    let args = c .before .before .before .before .before .args in
+    let loop = c .before .before .before .loop in
+    (search needs, mapped-next (smaller-than (args .sites)) (impure-at slots (args .rules .now) (args .i)) (loop .k) (loop .inv .1) (lt-ltb ((impure-at slots (args .rules .now) (args .i)) (loop .k)) (args .sites) (omega arith)))
 
 returns-2 : tie.Need-returns-2 Inv-loop μ-loop
-returns-2 c = let args = c .before .before .before .args in let loop = c .before .loop in let e : loop .k ≡ args .count = omega arith in sym (loop .inv .1) ∙ ap (λ (n : ℕ). all (smaller-than (args .sites)) (map (impure-at slots (args .rules .now) (args .i)) (upto n))) e
+returns-2 c =
+    let args = c .before .before .before .args in
+    let loop = c .before .loop in
+    let e : loop .k ≡ args .count = omega arith in sym (loop .inv .1) ∙ ap (λ (n : ℕ). all (smaller-than (args .sites)) (map (impure-at slots (args .rules .now) (args .i)) (upto n))) e
 
 pub impure-ok-spec : {M : Type 1} → statement M
 impure-ok-spec =

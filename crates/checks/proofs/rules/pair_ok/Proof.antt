@@ -37,15 +37,21 @@ rule-word-requires-2 c κs = search needs
 
 returns : tie.Need-returns
 unfolding pair-ok pair-at
-returns c = let args = c .before .before .before .before .args in sym (and-first _ (and-first _ (le-ltb (rule-word slots (args .rules .now) (args .i) (22 + 2 * args .k)) (args .sites) (omega arith))))
+returns c =
+    let args = c .before .before .before .before .args in
+    sym (and-first _ (and-first _ (le-ltb (rule-word slots (args .rules .now) (args .i) (22 + 2 * args .k)) (args .sites) (omega arith))))
 
 returns-2 : tie.Need-returns-2
 unfolding pair-ok pair-at
-returns-2 c = let args = c .before .before .before .before .before .args in sym (and-first _ (and-second ((rule-word slots (args .rules .now) (args .i) (22 + 2 * args .k)) below args .sites) (le-ltb (rule-word slots (args .rules .now) (args .i) (22 + 2 * args .k + 1)) (args .sites) (omega arith))))
+returns-2 c =
+    let args = c .before .before .before .before .before .args in
+    sym (and-first _ (and-second ((rule-word slots (args .rules .now) (args .i) (22 + 2 * args .k)) below args .sites) (le-ltb (rule-word slots (args .rules .now) (args .i) (22 + 2 * args .k + 1)) (args .sites) (omega arith))))
 
 returns-3 : tie.Need-returns-3
 unfolding pair-ok pair-at
-returns-3 c = let args = c .before .before .before .before .before .args in ap₂ (λ x y. not (eqb x y)) (c .before .before .before .rule-word .ensures) (c .before .before .rule-word2 .ensures) ∙ sym (and-rest (and-rest (lt-ltb (rule-word slots (args .rules .now) (args .i) (22 + 2 * args .k)) (args .sites) (omega arith)) (lt-ltb (rule-word slots (args .rules .now) (args .i) (22 + 2 * args .k + 1)) (args .sites) (omega arith))) refl)
+returns-3 c =
+    let args = c .before .before .before .before .before .args in
+    ap₂ (λ x y. not (eqb x y)) (c .before .before .before .rule-word .ensures) (c .before .before .rule-word2 .ensures) ∙ sym (and-rest (and-rest (lt-ltb (rule-word slots (args .rules .now) (args .i) (22 + 2 * args .k)) (args .sites) (omega arith)) (lt-ltb (rule-word slots (args .rules .now) (args .i) (22 + 2 * args .k + 1)) (args .sites) (omega arith))) refl)
 
 pub pair-ok-spec : {M : Type 1} → statement M
 pair-ok-spec =

@@ -7,9 +7,7 @@ use borrow.Author.Needs.{needs}
 use borrow.Author.Tests.{not-true, not-false}
 use Rattle.checks.proofs.RuleTests.{counts-fit, rules-pass-is}
 use Rattle.checks.specs.Words.{rule-fine}
-use Rattle.definition.specs.Accept.{rule-ok}
 use Rattle.definition.specs.Book.{slots}
-use Rattle.definition.specs.Choice.{count}
 use Rattle.definition.specs.Lists.{upto, all}
 use Rattle.definition.specs.Tables.{rule-tidy}
 use Rattle.laws.specs.Answers.{and-first, and-second}
@@ -35,14 +33,21 @@ rule-ok-requires c κs = search needs
 
 returns : tie.Need-returns Inv-loop μ-loop
 unfolding rule-fine
-returns c = let args = c .before .before .before .before .before .args in let loop = c .before .before .before .loop in λ t. sym (upto-stop (rule-fine slots (args .sites) (args .rules .now)) (args .count) (loop .i) (c .before .before .loop-test .taken) (and-second (rule-tidy slots (args .rules .now) (loop .i)) (sym (c .before .rule-ok .ensures) ∙ not-true _ (c .if1 .taken)))) ∙ (rules-pass-is slots (args .sites) (args .count) t (args .rules .now))
+returns c =
+    let args = c .before .before .before .before .before .args in
+    let loop = c .before .before .before .loop in
+    λ t. sym (upto-stop (rule-fine slots (args .sites) (args .rules .now)) (args .count) (loop .i) (c .before .before .loop-test .taken) (and-second (rule-tidy slots (args .rules .now) (loop .i)) (sym (c .before .rule-ok .ensures) ∙ not-true _ (c .if1 .taken)))) ∙ (rules-pass-is slots (args .sites) (args .count) t (args .rules .now))
 
 tidy-requires : tie.Need-tidy-requires Inv-loop μ-loop
-tidy-requires c κs = let args = c .before .before .before .before .before .args in (omega arith, counts-fit slots (args .sites) (args .rules .now) (c .before .before .before .loop .i) (sym (c .before .rule-ok .ensures) ∙ not-false _ (c .if1 .left)))
+tidy-requires c κs =
+    let args = c .before .before .before .before .before .args in
+    (omega arith, counts-fit slots (args .sites) (args .rules .now) (c .before .before .before .loop .i) (sym (c .before .rule-ok .ensures) ∙ not-false _ (c .if1 .left)))
 
 returns-2 : tie.Need-returns-2 Inv-loop μ-loop
 unfolding rule-fine
-returns-2 c = let args = c .before .before .before .before .before .before .before .args in λ t. sym (upto-stop (rule-fine slots (args .sites) (args .rules .now)) (args .count) (c .before .before .before .before .before .loop .i) (c .before .before .before .before .loop-test .taken) (and-first _ (sym (c .before .tidy .ensures) ∙ not-true _ (c .if2 .taken)))) ∙ (rules-pass-is slots (args .sites) (args .count) t (args .rules .now))
+returns-2 c =
+    let args = c .before .before .before .before .before .before .before .args in
+    λ t. sym (upto-stop (rule-fine slots (args .sites) (args .rules .now)) (args .count) (c .before .before .before .before .before .loop .i) (c .before .before .before .before .loop-test .taken) (and-first _ (sym (c .before .tidy .ensures) ∙ not-true _ (c .if2 .taken)))) ∙ (rules-pass-is slots (args .sites) (args .count) t (args .rules .now))
 
 add-i : tie.Need-add-i Inv-loop μ-loop
 add-i c = search needs
@@ -52,10 +57,16 @@ loop-less c = search needs
 
 loop-again : tie.Need-loop-again Inv-loop μ-loop
 unfolding rule-fine
-loop-again c = let args = c .before .before .before .before .before .before .before .args in let loop = c .before .before .before .before .before .loop in (search needs, search needs, upto-next (rule-fine slots (args .sites) (args .rules .now)) (loop .i) (loop .inv .2) (and (sym (c .before .tidy .ensures) ∙ not-false _ (c .if2 .left)) (sym (c .before .before .before .rule-ok .ensures) ∙ not-false _ (c .before .before .if1 .left))))
+loop-again c =
+    let args = c .before .before .before .before .before .before .before .args in
+    let loop = c .before .before .before .before .before .loop in
+    (search needs, search needs, upto-next (rule-fine slots (args .sites) (args .rules .now)) (loop .i) (loop .inv .2) (and (sym (c .before .tidy .ensures) ∙ not-false _ (c .if2 .left)) (sym (c .before .before .before .rule-ok .ensures) ∙ not-false _ (c .before .before .if1 .left))))
 
 returns-3 : tie.Need-returns-3 Inv-loop μ-loop
-returns-3 c = let args = c .before .before .before .args in let loop = c .before .loop in λ t. let e : loop .i ≡ args .count = omega arith in sym (loop .inv .2) ∙ ap (λ (n : ℕ). all (rule-fine slots (args .sites) (args .rules .now)) (upto n)) e ∙ (rules-pass-is slots (args .sites) (args .count) t (args .rules .now))
+returns-3 c =
+    let args = c .before .before .before .args in
+    let loop = c .before .loop in
+    λ t. let e : loop .i ≡ args .count = omega arith in sym (loop .inv .2) ∙ ap (λ (n : ℕ). all (rule-fine slots (args .sites) (args .rules .now)) (upto n)) e ∙ (rules-pass-is slots (args .sites) (args .count) t (args .rules .now))
 
 pub rules-pass-spec : {M : Type 1} → statement M
 rules-pass-spec =

@@ -4,7 +4,7 @@ use mathlib.Core.Path.{sym, ap, _∙_}
 use borrow.Author.Needs.{needs}
 use borrow.Author.Tests.{not-true, not-false}
 use Rattle.definition.specs.Book.{slots}
-use Rattle.definition.specs.Tables.{rule-words, rule-word, zero-from, rule-tidy}
+use Rattle.definition.specs.Tables.{rule-words, zero-from, rule-tidy}
 use Rattle.laws.specs.Answers.{every-stop, every-rest, every-one}
 use Rattle.checks.proofs.rules.tidy.Statement.{statement}
 use Rattle.checks.proofs.rules.tidy.Tie as tie
@@ -50,7 +50,9 @@ zero-words-requires c κs = search needs
 
 returns : tie.Need-returns
 unfolding rule-tidy
-returns c = let args = c .before .before .before .before .before .before .before .before .before .args in sym (every-stop _ 0 ((ap (λ (n : ℕ). zero-from (args .rules .now) ((rule-words slots * args .i) + (6 + 4 * n)) (4 * (4 - n))) (sym (c .before .before .before .before .before .before .wide .ensures ∙ c .before .before .before .before .before .before .before .rule-word .ensures)) ∙ sym (c .before .zero-words .ensures)) ∙ not-true _ (c .if1 .taken)))
+returns c =
+    let args = c .before .before .before .before .before .before .before .before .before .args in
+    sym (every-stop _ 0 ((ap (λ (n : ℕ). zero-from (args .rules .now) ((rule-words slots * args .i) + (6 + 4 * n)) (4 * (4 - n))) (sym (c .before .before .before .before .before .before .wide .ensures ∙ c .before .before .before .before .before .before .before .rule-word .ensures)) ∙ sym (c .before .zero-words .ensures)) ∙ not-true _ (c .if1 .taken)))
 
 mul-zero-words-3 : tie.Need-mul-zero-words-3
 mul-zero-words-3 c = search needs
@@ -72,7 +74,9 @@ zero-words-requires-2 c κs = search needs
 
 returns-2 : tie.Need-returns-2
 unfolding rule-tidy
-returns-2 c = let args = c .before .before .before .before .before .before .before .before .before .before .before .args in sym (every-stop _ 1 ((ap (λ (n : ℕ). zero-from (args .rules .now) ((rule-words slots * args .i) + (22 + 2 * n)) (2 * (4 - n))) (sym (c .before .before .before .before .before .before .wide2 .ensures ∙ c .before .before .before .before .before .before .before .rule-word2 .ensures)) ∙ sym (c .before .zero-words2 .ensures)) ∙ not-true _ (c .if2 .taken)))
+returns-2 c =
+    let args = c .before .before .before .before .before .before .before .before .before .before .before .args in
+    sym (every-stop _ 1 ((ap (λ (n : ℕ). zero-from (args .rules .now) ((rule-words slots * args .i) + (22 + 2 * n)) (2 * (4 - n))) (sym (c .before .before .before .before .before .before .wide2 .ensures ∙ c .before .before .before .before .before .before .before .rule-word2 .ensures)) ∙ sym (c .before .zero-words2 .ensures)) ∙ not-true _ (c .if2 .taken)))
 
 add-zero-words-5 : tie.Need-add-zero-words-5
 add-zero-words-5 c = search needs
@@ -88,7 +92,9 @@ zero-words-requires-3 c κs = search needs
 
 returns-3 : tie.Need-returns-3
 unfolding rule-tidy
-returns-3 c = let args = c .before .before .before .before .before .before .before .before .before .before .before .before .args in sym (every-rest _ ((ap (λ (n : ℕ). zero-from (args .rules .now) ((rule-words slots * args .i) + (6 + 4 * n)) (4 * (4 - n))) (sym (c .before .before .before .before .before .before .before .before .before .wide .ensures ∙ c .before .before .before .before .before .before .before .before .before .before .rule-word .ensures)) ∙ sym (c .before .before .before .before .zero-words .ensures)) ∙ not-false _ (c .before .before .before .if1 .left)) (every-rest _ ((ap (λ (n : ℕ). zero-from (args .rules .now) ((rule-words slots * args .i) + (22 + 2 * n)) (2 * (4 - n))) (sym (c .before .before .before .before .before .before .before .wide2 .ensures ∙ c .before .before .before .before .before .before .before .before .rule-word2 .ensures)) ∙ sym (c .before .before .zero-words2 .ensures)) ∙ not-false _ (c .before .if2 .left)) (every-one _ ∙ (ap (λ (n : ℕ). zero-from (args .rules .now) ((rule-words slots * args .i) + (30 + n)) (4 - n)) (sym (c .before .before .before .before .before .wide3 .ensures ∙ c .before .before .before .before .before .before .rule-word3 .ensures)) ∙ sym (c .zero-words3 .ensures)))))
+returns-3 c =
+    let args = c .before .before .before .before .before .before .before .before .before .before .before .before .args in
+    sym (every-rest _ ((ap (λ (n : ℕ). zero-from (args .rules .now) ((rule-words slots * args .i) + (6 + 4 * n)) (4 * (4 - n))) (sym (c .before .before .before .before .before .before .before .before .before .wide .ensures ∙ c .before .before .before .before .before .before .before .before .before .before .rule-word .ensures)) ∙ sym (c .before .before .before .before .zero-words .ensures)) ∙ not-false _ (c .before .before .before .if1 .left)) (every-rest _ ((ap (λ (n : ℕ). zero-from (args .rules .now) ((rule-words slots * args .i) + (22 + 2 * n)) (2 * (4 - n))) (sym (c .before .before .before .before .before .before .before .wide2 .ensures ∙ c .before .before .before .before .before .before .before .before .rule-word2 .ensures)) ∙ sym (c .before .before .zero-words2 .ensures)) ∙ not-false _ (c .before .if2 .left)) (every-one _ ∙ (ap (λ (n : ℕ). zero-from (args .rules .now) ((rule-words slots * args .i) + (30 + n)) (4 - n)) (sym (c .before .before .before .before .before .wide3 .ensures ∙ c .before .before .before .before .before .before .rule-word3 .ensures)) ∙ sym (c .zero-words3 .ensures)))))
 
 pub tidy-spec : {M : Type 1} → statement M
 tidy-spec =

@@ -7,7 +7,6 @@ use native.Mathlib.Omega.{arith}
 use borrow.Author.Needs.{needs}
 use borrow.Author.Tests.{lt-ltb, le-ltb}
 use Rattle.definition.specs.Accept.{smaller-than}
-use Rattle.definition.specs.Choice.{count}
 use Rattle.definition.specs.Lists.{upto, all}
 use Rattle.definition.specs.Tables.{source-at}
 use Rattle.laws.specs.Turns.{mapped-next, mapped-stop}
@@ -34,7 +33,10 @@ wide-requires c κs = search needs
 
 returns : tie.Need-returns Inv-loop μ-loop
 unfolding source-at smaller-than
-returns c = let args = c .before .before .before .before .before .before .args in let loop = c .before .before .before .before .loop in sym (mapped-stop (smaller-than (args .s)) (source-at (args .sites .now) (args .s)) (args .count) (loop .k) (c .before .before .before .loop-test .taken) (le-ltb ((source-at (args .sites .now) (args .s)) (loop .k)) (args .s) (omega arith)))
+returns c =
+    let args = c .before .before .before .before .before .before .args in
+    let loop = c .before .before .before .before .loop in
+    sym (mapped-stop (smaller-than (args .s)) (source-at (args .sites .now) (args .s)) (args .count) (loop .k) (c .before .before .before .loop-test .taken) (le-ltb ((source-at (args .sites .now) (args .s)) (loop .k)) (args .s) (omega arith)))
 
 add-k : tie.Need-add-k Inv-loop μ-loop
 add-k c = search needs
@@ -44,10 +46,16 @@ loop-less c = search needs
 
 loop-again : tie.Need-loop-again Inv-loop μ-loop
 unfolding source-at smaller-than
-loop-again c = let args = c .before .before .before .before .before .before .args in let loop = c .before .before .before .before .loop in (search needs, mapped-next (smaller-than (args .s)) (source-at (args .sites .now) (args .s)) (loop .k) (loop .inv .1) (lt-ltb ((source-at (args .sites .now) (args .s)) (loop .k)) (args .s) (omega arith)))
+loop-again c =
+    let args = c .before .before .before .before .before .before .args in
+    let loop = c .before .before .before .before .loop in
+    (search needs, mapped-next (smaller-than (args .s)) (source-at (args .sites .now) (args .s)) (loop .k) (loop .inv .1) (lt-ltb ((source-at (args .sites .now) (args .s)) (loop .k)) (args .s) (omega arith)))
 
 returns-2 : tie.Need-returns-2 Inv-loop μ-loop
-returns-2 c = let args = c .before .before .before .args in let loop = c .before .loop in let e : loop .k ≡ args .count = omega arith in sym (loop .inv .1) ∙ ap (λ (n : ℕ). all (smaller-than (args .s)) (map (source-at (args .sites .now) (args .s)) (upto n))) e
+returns-2 c =
+    let args = c .before .before .before .args in
+    let loop = c .before .loop in
+    let e : loop .k ≡ args .count = omega arith in sym (loop .inv .1) ∙ ap (λ (n : ℕ). all (smaller-than (args .s)) (map (source-at (args .sites .now) (args .s)) (upto n))) e
 
 pub sources-smaller-spec : {M : Type 1} → statement M
 sources-smaller-spec =

@@ -3,7 +3,7 @@ use Prim.Native.Nat.{ℕ, _+_, _-_, _*_}
 use mathlib.Core.Path.{sym, ap, _∙_}
 use borrow.Author.Needs.{needs}
 use borrow.Author.Tests.{eq-eqb, ne-eqb}
-use Rattle.definition.specs.Tables.{site-words, site-word, zero-from, site-tidy}
+use Rattle.definition.specs.Tables.{site-words, zero-from, site-tidy}
 use Rattle.checks.proofs.sites.tidy.Statement.{statement}
 use Rattle.checks.proofs.sites.tidy.Tie as tie
 
@@ -37,7 +37,9 @@ zero-words-requires c κs = search needs
 
 returns-2 : tie.Need-returns-2
 unfolding site-tidy
-returns-2 c = let args = c .before .before .before .before .before .before .args in c .zero-words .ensures ∙ ap (λ (n : ℕ). zero-from (args .sites .now) (site-words * args .s + (2 + n)) (4 - n)) (c .before .wide .ensures ∙ c .before .before .site-word2 .ensures) ∙ sym (rw (ne-eqb _ _ (λ e. c .before .before .before .if1 .left (c .before .before .before .before .site-word .ensures ∙ e))))
+returns-2 c =
+    let args = c .before .before .before .before .before .before .args in
+    c .zero-words .ensures ∙ ap (λ (n : ℕ). zero-from (args .sites .now) (site-words * args .s + (2 + n)) (4 - n)) (c .before .wide .ensures ∙ c .before .before .site-word2 .ensures) ∙ sym (rw (ne-eqb _ _ (λ e. c .before .before .before .if1 .left (c .before .before .before .before .site-word .ensures ∙ e))))
 
 pub tidy-spec : {M : Type 1} → statement M
 tidy-spec =

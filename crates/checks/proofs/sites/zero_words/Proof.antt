@@ -6,7 +6,6 @@ use native.Mathlib.Omega.{arith}
 use borrow.Author.Needs.{needs}
 use borrow.Author.Tests.{eq-eqb, ne-eqb}
 use Rattle.definition.specs.Tables.{is-zero, zero-from}
-use Rattle.definition.specs.Tree.{words}
 use Rattle.laws.specs.Turns.{from-one, from-stop}
 use Rattle.checks.proofs.sites.zero_words.Statement.{statement}
 use Rattle.checks.proofs.sites.zero_words.Tie as tie
@@ -31,7 +30,9 @@ shared-slice-read-if1 c = search needs
 
 returns : tie.Need-returns Inv-loop μ-loop
 unfolding is-zero
-returns c = let args = c .before .before .before .before .args in sym (from-stop (is-zero (args .words .now)) (args .at) (args .n) (c .before .before .before .loop .k) (omega arith) (ne-eqb _ _ (c .if1 .taken)))
+returns c =
+    let args = c .before .before .before .before .args in
+    sym (from-stop (is-zero (args .words .now)) (args .at) (args .n) (c .before .before .before .loop .k) (omega arith) (ne-eqb _ _ (c .if1 .taken)))
 
 add-k : tie.Need-add-k Inv-loop μ-loop
 add-k c = search needs
@@ -41,10 +42,16 @@ loop-less c = search needs
 
 loop-again : tie.Need-loop-again Inv-loop μ-loop
 unfolding is-zero
-loop-again c = let args = c .before .before .before .before .args in let loop = c .before .before .before .loop in (search needs, from-one (is-zero (args .words .now)) (args .at) (loop .k) (loop .inv .1) (eq-eqb _ _ (c .if1 .left)))
+loop-again c =
+    let args = c .before .before .before .before .args in
+    let loop = c .before .before .before .loop in
+    (search needs, from-one (is-zero (args .words .now)) (args .at) (loop .k) (loop .inv .1) (eq-eqb _ _ (c .if1 .left)))
 
 returns-2 : tie.Need-returns-2 Inv-loop μ-loop
-returns-2 c = let args = c .before .before .args in let loop = c .before .loop in let e : loop .k ≡ args .n = omega arith in sym (loop .inv .1) ∙ ap (zero-from (args .words .now) (args .at)) e
+returns-2 c =
+    let args = c .before .before .args in
+    let loop = c .before .loop in
+    let e : loop .k ≡ args .n = omega arith in sym (loop .inv .1) ∙ ap (zero-from (args .words .now) (args .at)) e
 
 pub zero-words-spec : {M : Type 1} → statement M
 zero-words-spec =
