@@ -1,3 +1,4 @@
+-- Laws that the proofs of `checks` share.
 mod Shape
 pub mod Views
 mod SiteTests
