@@ -1,10 +1,12 @@
 -- Laws that any crate cites; nothing here is about planning.
 pub mod Tests
+pub mod Answers
 pub mod Members
 pub mod Ranges
 pub mod Runs
 pub mod Asks
 pub mod Loops
+pub mod Turns
 pub mod Totals
 pub mod Signed
 pub mod Stores

@@ -78,6 +78,16 @@ module _ {A : Type 0} where
   some-member [] h = absurd (omega arith)
   some-member (x ∷ xs) h = (x, List·Memᴰ·head refl)
 
+module _ {A : Type 0} (p q : A → Bool) where
+  -- two tests that agree on the members
+  pub filter-same : (xs : List A) → ((x : A) → List·Memᴰ x xs → p x ≡ q x) → filter p xs ≡ filter q xs
+  filter-same [] h = refl
+  filter-same (x ∷ xs) h = rw (h x (List·Memᴰ·head refl)) (ap (keep (q x) x) (filter-same xs (λ y m. h y (List·Memᴰ·tail m))))
+
+  pub all-same : (xs : List A) → ((x : A) → List·Memᴰ x xs → p x ≡ q x) → all p xs ≡ all q xs
+  all-same [] h = refl
+  all-same (x ∷ xs) h = rw (h x (List·Memᴰ·head refl), all-same xs (λ y m. h y (List·Memᴰ·tail m)))
+
 module _ {A : Type 0} (p q : A → Bool) (h : (x : A) → q x ≡ true → p x ≡ true) where
   keep-le : (s t : Bool) (x : A) (ys xs : List A) → (s ≡ true → t ≡ true) → length ys ≤ length xs → length (keep s x ys) ≤ length (keep t x xs)
   keep-le true true x ys xs k l = omega arith

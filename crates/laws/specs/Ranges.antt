@@ -13,6 +13,9 @@ from-next : (a n : ℕ) → from a (suc n) ≡ from a n ++ ((a + n) ∷ [])
 from-next a zero = ap (λ (k : ℕ). k ∷ []) (sym (add-zero a))
 from-next a (suc n) = ap (λ (l : List ℕ). a ∷ l) (from-next (suc a) n ∙ ap (λ (k : ℕ). from (suc a) n ++ (k ∷ [])) (omega arith))
 
+pub from-more : (a n : ℕ) → from a (n + 1) ≡ from a n ++ ((a + n) ∷ [])
+from-more a n = rw add-one (from-next a n)
+
 pub upto-more : (n : ℕ) → upto (n + 1) ≡ upto n ++ (n ∷ [])
 upto-more n = let e : 0 + n ≡ n = omega arith in rw add-one (rw e at (from-next 0 n))
 

@@ -13,6 +13,7 @@ use Rattle.definition.specs.Choice.{has}
 use Rattle.definition.specs.Lists.{all, each}
 use Rattle.definition.specs.Plan.{same-pattern}
 use Rattle.definition.specs.Tables.{rule-at}
+use Rattle.laws.specs.Answers.{and-true, and-assoc}
 use Rattle.laws.specs.Runs.{in-slice, each-more, each-end}
 use Rattle.laws.specs.Tests.{split}
 use Rattle.tables.specs.Held.{Held, rank-of, shown, test-of}
@@ -61,14 +62,6 @@ module _ {test : ℕ → Bool} {rank : ℕ → ℕ} {part : List ℕ} {k top : �
   lack-ends l = sym (each-end (in-slice part) (raise test rank) k l top) ∙ v .is
 
 -- NO RULE THAT LACKS THE TEST RANKS ABOVE K
-and-true : (x : Bool) → x ≡ x && true
-and-true true = refl
-and-true false = refl
-
-and-assoc : (x y z : Bool) → (x && y) && z ≡ x && (y && z)
-and-assoc true y z = refl
-and-assoc false y z = refl
-
 leb-max : (a r K : ℕ) → leb (max a (r + 1)) (K + 1) ≡ leb a (K + 1) && leb r K
 leb-max a r K = go (split (leb a (K + 1))) (split (leb r K))
   where
@@ -84,12 +77,12 @@ bars-not test rank K j = test j || leb (rank j) K
 module _ (test : ℕ → Bool) (rank : ℕ → ℕ) (K : ℕ) where
   lack-from : (w : List ℕ) (acc : ℕ) → leb (each (raise test rank) w acc) (K + 1) ≡ leb acc (K + 1) && all (bars-not test rank K) w
   unfolding raise
-  lack-from [] acc = and-true (leb acc (K + 1))
+  lack-from [] acc = sym (and-true (leb acc (K + 1)))
   lack-from (j ∷ js) acc = lack-from js (raised (test j) (rank j) acc) ∙ go (test j)
     where
       go : (t : Bool) → leb (raised t (rank j) acc) (K + 1) && all (bars-not test rank K) js ≡ leb acc (K + 1) && ((t || leb (rank j) K) && all (bars-not test rank K) js)
       go true = refl
-      go false = ap (λ x. x && all (bars-not test rank K) js) (leb-max acc (rank j) K) ∙ and-assoc (leb acc (K + 1)) (leb (rank j) K) (all (bars-not test rank K) js)
+      go false = ap (λ x. x && all (bars-not test rank K) js) (leb-max acc (rank j) K) ∙ sym (and-assoc (leb acc (K + 1)) (leb (rank j) K) (all (bars-not test rank K) js))
 
   pub lack-all : (w : List ℕ) → leb (lack-top test rank w) (K + 1) ≡ all (bars-not test rank K) w
   unfolding lack-top

@@ -4,19 +4,13 @@ use mathlib.Core.Bool.{true, false}
 use mathlib.Core.List.{List, map}
 use Prim.Native.Nat.{ℕ, zero, suc, _+_, _≤_, _<_}
 use native.Mathlib.Omega.{arith}
-use lib.ListN.{length, getD, length-map}
+use lib.ListN.{length, getD}
 use borrow.Author.Tests.{eq-eqb, ne-eqb, lt-ltb, le-ltb}
 use Rattle.definition.specs.Book.{slots}
 use Rattle.definition.specs.Lists.{_is_, upto, empty}
 use Rattle.definition.specs.Scope.{never-listed}
 use Rattle.definition.specs.Tables.{signed, site-word, source-at, site-at, rule-word, constraint-at, pair-at, impure-at, rule-at}
-use Rattle.laws.specs.Ranges.{from-length, map-at}
-
-map-length : {A : Type 0} (f : ℕ → A) (n : ℕ) → length (map f (upto n)) ≡ n
-map-length f n = length-map (upto n) _ ∙ from-length 0 n
-
-map-get : {A : Type 0} (f : ℕ → A) (n k : ℕ) (d : A) → k < n → getD (map f (upto n)) k d ≡ f k
-map-get f n k d h = map-at f 0 n k d h ∙ ap f (omega arith)
+use Rattle.laws.specs.Turns.{length-map-upto, get-map-upto}
 
 -- SITES
 module _ (t : List ℕ) (s : ℕ) where
@@ -26,11 +20,11 @@ module _ (t : List ℕ) (s : ℕ) where
 
   pub source-count : length (site-at t s .sources) ≡ site-word t s 1
   unfolding site-at
-  source-count = map-length (source-at t s) (site-word t s 1)
+  source-count = length-map-upto (source-at t s) (site-word t s 1)
 
   pub source-is : (k : ℕ) → k < length (site-at t s .sources) → getD (site-at t s .sources) k 0 ≡ site-word t s (2 + k)
   unfolding site-at source-at
-  source-is k h = map-get (source-at t s) (site-word t s 1) k 0 (let z = source-count in omega arith)
+  source-is k h = get-map-upto (source-at t s) (site-word t s 1) k 0 (let z = source-count in omega arith)
 
   -- a kind 7 site's pattern kind, position and number
   module _ (e : site-at t s .kind ≡ 7) where
@@ -80,16 +74,16 @@ module _ (t : List ℕ) (i : ℕ) where
 
   pub constraint-count : length (rule-at slots t i .constraints) ≡ rule-word slots t i 3
   unfolding rule-at
-  constraint-count = map-length (constraint-at slots t i) (rule-word slots t i 3)
+  constraint-count = length-map-upto (constraint-at slots t i) (rule-word slots t i 3)
 
   pub pair-count : length (rule-at slots t i .pairs) ≡ rule-word slots t i 4
   unfolding rule-at
-  pair-count = map-length (pair-at slots t i) (rule-word slots t i 4)
+  pair-count = length-map-upto (pair-at slots t i) (rule-word slots t i 4)
 
   pub impure-count : length (rule-at slots t i .impure) ≡ rule-word slots t i 5
   unfolding rule-at
-  impure-count = map-length (impure-at slots t i) (rule-word slots t i 5)
+  impure-count = length-map-upto (impure-at slots t i) (rule-word slots t i 5)
 
   pub impure-is : (k : ℕ) → k < length (rule-at slots t i .impure) → getD (rule-at slots t i .impure) k 0 ≡ rule-word slots t i (30 + k)
   unfolding rule-at impure-at
-  impure-is k h = map-get (impure-at slots t i) (rule-word slots t i 5) k 0 (let z = impure-count in omega arith)
+  impure-is k h = get-map-upto (impure-at slots t i) (rule-word slots t i 5) k 0 (let z = impure-count in omega arith)

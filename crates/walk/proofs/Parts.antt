@@ -16,6 +16,7 @@ use Rattle.definition.specs.Tree.{Block, equal, return}
 use Rattle.definition.specs.Walk.{Reading, Hit, first-hit, hits, flow-hits, walk, agree, placed-in, sites-in, flow-sites}
 use Rattle.definition.specs.Read.{Reader, _>>=_, guarded, id-ok, read-lets, read-places, read-pattern, read-arm, read-flow, read-tagged, read-step, read-counted, read-framed, read-block}
 use Rattle.definition.specs.Tables.{signed}
+use Rattle.laws.specs.Answers.{and-false}
 use Rattle.walk.specs.declared.Stop.{Stop}
 use Rattle.walk.specs.declared.Seen.{Seen}
 use Rattle.walk.specs.Ends.{above, Good, Ends, never, stop-of, Returns, pattern-at, pattern-names, arm-names, arm-stop, step-names, step-stop, flow-stop, reading}
@@ -142,10 +143,6 @@ return-short (t ∷ []) h k = absurd (omega arith)
 return-short (t ∷ a ∷ []) h k = absurd (omega arith)
 return-short (t ∷ a ∷ b ∷ []) h k = record { is = λ d sub. record { is = refl } }
 return-short (t ∷ a ∷ b ∷ x ∷ w) h k = absurd (omega arith)
-
-and-false : (x : Bool) → x && false ≡ false
-and-false true = refl
-and-false false = refl
 
 pub return-bad : (w : List ℕ) → 4 ≤ length w → id-ok (getD w 1 0) && id-ok (getD w 3 0) ≡ false → Returns w Seen.NoTree
 unfolding read-flow

@@ -1,0 +1,4 @@
+-- Laws that the proofs of `book` share.
+mod Framing
+mod Recording
+mod Replies

@@ -1,0 +1,10 @@
+-- Laws that the proofs of `checks` share.
+mod Shape
+pub mod Views
+mod SiteTests
+pub mod RuleTests
+mod RulePairs
+mod Marking
+mod Soundness
+mod Naming
+mod Visits
