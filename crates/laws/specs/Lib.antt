@@ -19,3 +19,4 @@ pub mod Ascending
 pub mod Splits
 pub mod Sides
 pub mod Firsts
+pub mod Lending

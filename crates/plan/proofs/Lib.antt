@@ -1,0 +1,16 @@
+-- The proofs of `plan`.
+pub mod Bounds
+pub mod Scoping
+pub mod Parting
+pub mod Ready
+pub mod Returning
+pub mod Choosing
+pub mod Framing
+pub mod Stepping
+pub mod Arms
+pub mod Making
+pub mod ArmsLoop
+pub mod StepsLoop
+pub mod Filling
+pub mod Rooting
+pub mod Deciding

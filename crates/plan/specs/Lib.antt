@@ -1,0 +1,4 @@
+-- What the contracts of `plan` cite beside the definition.
+pub mod Work
+pub mod Made
+pub mod Determined
