@@ -14,3 +14,4 @@ pub mod StepsLoop
 pub mod Filling
 pub mod Rooting
 pub mod Deciding
+pub mod Callers
