@@ -1,5 +1,5 @@
 -- The frame of a block by its kind, and refusal 3 test by test.
-use Prim.Native.Nat.{ℕ, _≤_, _<_, _-_, _+_, _*_, _/_, _%_, min}
+use Prim.Native.Nat.{ℕ, _≤_, _<_, _-_, _*_, _/_, _%_, min}
 use mathlib.Core.Path.{_≡_, _∙_}
 use mathlib.Core.Bool.{true, false}
 use mathlib.Core.List.{List}
@@ -12,7 +12,7 @@ use Rattle.definition.specs.Book.{most, slots}
 use Rattle.definition.specs.Bytes.{le16, length-ok, frame, frame-ok, frames-ok, block-count, blocks-wanted, blocks-for, rules-a-block, rule-bytes}
 use Rattle.laws.specs.Tests.{both, every-at}
 use Rattle.laws.specs.Answers.{every-stop, every-rest, every-one}
-use Rattle.book.specs.Shapes.{frame-with, blocks-in}
+use Rattle.book.specs.Shapes.{frame-with, blocks-in, Sizes}
 
 pub frame-head : (n S R i : ℕ) → i ≡ 0 → frame n S R i ≡ frame-with 1 0 4
 unfolding frame
@@ -55,12 +55,6 @@ unfolding length-ok
 at-least-one b e =
     let h = both (ltb 0 (length b)) (eqb (length b % 512) 0) e in
     omega (arith, ltb-true 0 (length b) (h .0), eqb-true (length b % 512) 0 (h .1))
-
-pub record Sizes (b : List ℕ) (S R : ℕ) : Type 0 where
-  pub sites : S ≤ most
-  pub rules : R ≤ most
-  pub site-room : 512 * (1 + (S + 41) / 42) ≤ length b
-  pub room : 512 * blocks-in S R ≤ length b
 
 pub sizes : (b : List ℕ) (S R : ℕ) → S ≡ le16 b 4 → R ≡ le16 b 6 → frames-ok slots b ≡ true → Sizes b S R
 unfolding frames-ok block-count blocks-wanted

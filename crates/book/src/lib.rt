@@ -12,8 +12,8 @@ ghost use Rattle.definition.specs.Book.{most, slots};
 ghost use Rattle.definition.specs.Tables.{site-words, rule-words};
 ghost use Rattle.definition.specs.Accept.{lowest};
 ghost use Rattle.definition.specs.Bytes.{site-gaps, rule-gaps, sites-pass, rules-pass};
-ghost use Rattle.book.specs.Shapes.{blocks-in, record-tests};
-ghost use Rattle.book.specs.Reply.{Decoded};
+ghost use Rattle.book.specs.Shapes.{blocks-in, record-tests, Sizes};
+ghost use Rattle.book.specs.Reply.{Judged, Decoded};
 
 // Refusal 4 is not given.
 fn site_records_ok(book: &[u8], sites: &[u32], count: usize) -> bool
@@ -73,6 +73,22 @@ fn front_refusal(
     records_refusal(book, &sites[..e], site_count, &rules[..f], rule_count)
 }
 
+// Fills the tables, and tells the first of the tests 4 to 8 that they fail, 0 if none.
+fn fill(
+    book: &[u8],
+    site_count: usize,
+    rule_count: usize,
+    sites: &mut [u32; 1512],
+    rules: &mut [u32; 8568],
+) -> u8
+    requires { ⌜ Sizes (now book) «site_count» «rule_count» ⌝ }
+    ensures { λ r. ⌜ Judged (now (book .entry)) «site_count» «rule_count» r (now (sites .exit)) (now (rules .exit)) ⌝ }
+{
+    records::put_sites(book, site_count, sites);
+    records::put_rules(book, site_count, rule_count, rules);
+    front_refusal(book, sites, site_count, rules, rule_count)
+}
+
 pub enum Contents {
     // How many sites and rules the tables hold.
     Tables(usize, usize),
@@ -80,9 +96,8 @@ pub enum Contents {
     Refused(u8),
 }
 
-// Internal: the tables of a book, or its refusal. The lent tables have room for 252 sites and 252 rules; the book's own stand at their front.
-pub fn read(book: &[u8], sites: &mut [u32], rules: &mut [u32]) -> Contents
-    requires { ⌜ (site-words * most ≤ length (now sites)) × (rule-words slots * most ≤ length (now rules)) ⌝ }
+// Internal: the tables of a book, at the front of what is lent, or its refusal. What the tables hold after a refusal is not promised.
+pub fn read(book: &[u8], sites: &mut [u32; 1512], rules: &mut [u32; 8568]) -> Contents
     ensures { λ r. ⌜ Decoded (now (book .entry)) r (now (sites .exit)) (now (rules .exit)) ⌝ }
 {
     let early = blocks::blocks_refusal(book);
@@ -91,9 +106,7 @@ pub fn read(book: &[u8], sites: &mut [u32], rules: &mut [u32]) -> Contents
     }
     let s = tables::wide(fields::read16(book, 4));
     let r = tables::wide(fields::read16(book, 6));
-    records::put_sites(book, s, sites);
-    records::put_rules(book, s, r, rules);
-    let late = front_refusal(book, sites, s, rules, r);
+    let late = fill(book, s, r, sites, rules);
     if late != 0 {
         return Contents::Refused(late);
     }

@@ -1,6 +1,5 @@
 -- Laws that the proofs of `checks` share.
 mod Shape
-pub mod Views
 mod SiteTests
 pub mod RuleTests
 mod RulePairs

@@ -16,7 +16,8 @@ use Rattle.laws.specs.Orders.{same-number-equal, same-number-self}
 use Rattle.laws.specs.Tests.{split, both, and, implied}
 use Rattle.laws.specs.Members.{all-at, all-from, all-same}
 use Rattle.checks.specs.Words.{rules-agree, agrees-so-far}
-use Rattle.checks.proofs.Views.{Narrow, signed-same}
+use Rattle.tables.specs.Held.{Words}
+use Rattle.tables.proofs.Signs.{same-word}
 
 -- REFUSAL 7
 pub apart-ok-is : (n S R : ℕ) (t u : List ℕ) → all (λ i. apart (rule-at n u i)) (upto R) ≡ apart-ok (book-of n S R t u)
@@ -31,10 +32,10 @@ agree-words n u i k j m =
     && (rule-word n u i (constraint-start k + 3) is rule-word n u j (constraint-start m + 3))
     implies rule-word n u i (constraint-start k + 2) is rule-word n u j (constraint-start m + 2)
 
-pub agree-is : (n : ℕ) (u : List ℕ) → Narrow u → (i k j m : ℕ) → fields-agree (constraint-at n u i k) (constraint-at n u j m) ≡ agree-words n u i k j m
+pub agree-is : (n : ℕ) (u : List ℕ) → Words u → (i k j m : ℕ) → fields-agree (constraint-at n u i k) (constraint-at n u j m) ≡ agree-words n u i k j m
 unfolding fields-agree constraint-at
 agree-is n u h i k j m =
-    rw (signed-same (rule-word n u i (constraint-start k + 3)) (rule-word n u j (constraint-start m + 3)) (h (rule-words n * i + (constraint-start k + 3))) (h (rule-words n * j + (constraint-start m + 3))))
+    rw (← same-word (rule-word n u i (constraint-start k + 3)) (rule-word n u j (constraint-start m + 3)) (h (rule-words n * i + (constraint-start k + 3))) (h (rule-words n * j + (constraint-start m + 3))))
 
 -- what the first of them decides, by what is found unequal
 module _ (a b c d : Bool) where

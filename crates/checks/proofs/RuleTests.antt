@@ -15,7 +15,9 @@ use Rattle.laws.specs.Tests.{both, every-at}
 use Rattle.laws.specs.Answers.{and-true, every-stop}
 use Rattle.laws.specs.Turns.{length-map-upto, all-map, all-and, upto-at}
 use Rattle.checks.specs.Words.{pattern-words, CountsFit, Counted, rule-fine}
-use Rattle.checks.proofs.Views.{Narrow, signed-zero, sites-number}
+use Rattle.theorems.specs.Refusals.{sites-length}
+use Rattle.tables.specs.Held.{Words}
+use Rattle.tables.proofs.Signs.{zero-word}
 
 -- A PATTERN, kind by kind
 module _ (k f z : ℕ) where
@@ -35,10 +37,10 @@ module _ (k f z : ℕ) where
   unfolding pattern-words every
   pattern-some h = rw h (and-true (eqb f 1 && eqb z 0))
 
-pub constraint-is : (n S : ℕ) (u : List ℕ) → Narrow u → (i k : ℕ) → constraint-ok S (constraint-at n u i k)
+pub constraint-is : (n S : ℕ) (u : List ℕ) → Words u → (i k : ℕ) → constraint-ok S (constraint-at n u i k)
     ≡ (rule-word n u i (constraint-start k) below S) && pattern-words (rule-word n u i (constraint-start k + 1)) (rule-word n u i (constraint-start k + 2)) (rule-word n u i (constraint-start k + 3))
 unfolding constraint-ok pattern-ok constraint-at pattern-words
-constraint-is n S u h i k = rw (signed-zero (rule-word n u i (constraint-start k + 3)) (h (rule-words n * i + (constraint-start k + 3))))
+constraint-is n S u h i k = rw (← zero-word (rule-word n u i (constraint-start k + 3)) (h (rule-words n * i + (constraint-start k + 3))))
 
 -- A RULE, its counts in words
 module _ (n S : ℕ) (u : List ℕ) (i : ℕ) where
@@ -66,7 +68,7 @@ unfolding rules-pass rules-ok book-of rule-fine
 rules-pass-is n S R t u =
     all-and (rule-tidy n u) (λ i. rule-ok n S (rule-at n u i)) (upto R)
     ∙ ap (λ (x : Bool). all (rule-tidy n u) (upto R) && x)
-    (sym (all-map (rule-ok n S) (rule-at n u) (upto R)) ∙ ap (λ (m : ℕ). all (rule-ok n m) (map (rule-at n u) (upto R))) (sym (sites-number n S R t u)))
+    (sym (all-map (rule-ok n S) (rule-at n u) (upto R)) ∙ ap (λ (m : ℕ). all (rule-ok n m) (map (rule-at n u) (upto R))) (sym (sites-length n S R t u)))
 
 -- each rule of a table that passes is right, and has counts that fit
 pub rule-passes : (n S R : ℕ) (t u : List ℕ) → rules-pass n S R t u ≡ true → (i : ℕ) → i < R → rule-ok n S (rule-at n u i) ≡ true

@@ -8,7 +8,7 @@ use native.Mathlib.Omega.{arith}
 use lib.IntN.{ℤ, pos}
 use lib.Dec.{eqb}
 use lib.ListN.{length, getD}
-use borrow.Author.Tests.{eq-eqb, ne-eqb}
+use borrow.Author.Tests.{eqb-true, eq-eqb, ne-eqb}
 use Rattle.definition.specs.Lists.{_is_, _below_, _at-most_, _implies_, every, same-number, upto, all}
 use Rattle.definition.specs.Book.{Site, site}
 use Rattle.definition.specs.Tables.{site-words, site-word, site-at, site-tidy, book-of}
@@ -18,7 +18,11 @@ use Rattle.laws.specs.Tests.{split}
 use Rattle.laws.specs.Answers.{and-false, every-stop, every-rest}
 use Rattle.laws.specs.Turns.{all-and, upto-same}
 use Rattle.checks.specs.Words.{shape-words, twinless, site-fine}
-use Rattle.checks.proofs.Views.{Narrow, signed-same, signed-zero, source-count, site-pattern, site-position, site-number, sites-number, site-is}
+use Rattle.theorems.specs.Refusals.{sites-length}
+use Rattle.tables.specs.Held.{Words}
+use Rattle.tables.proofs.Signs.{same-word, zero-word}
+use Rattle.tables.proofs.Fields.{site-kind, source-count, bound-kind, bound-position, bound-number}
+use Rattle.tables.proofs.Kept.{site-is}
 
 -- kind, count, pattern kind, position, and whether the number is 0
 unfoldable shape-of : ℕ → ℕ → ℕ → ℕ → Bool → Bool
@@ -48,19 +52,16 @@ shape-plain k n p q z p′ q′ z′ e = rw e
 shape-same : {k n p q k′ n′ p′ q′ : ℕ} {z z′ : Bool} → k ≡ k′ → n ≡ n′ → p ≡ p′ → q ≡ q′ → z ≡ z′ → shape-of k n p q z ≡ shape-of k′ n′ p′ q′ z′
 shape-same a b c d e = cc
 
-site-kind : (t : List ℕ) (s : ℕ) → site-at t s .kind ≡ site-word t s 0
-unfolding site-at
-site-kind t s = refl
-
-pub shape-is : (t : List ℕ) → Narrow t → (s : ℕ) → shape-ok (site-at t s) ≡ shape-words (site-word t s 0) (site-word t s 1) (site-word t s 3) (site-word t s 4) (site-word t s 5)
+pub shape-is : (t : List ℕ) → Words t → (s : ℕ) → shape-ok (site-at t s) ≡ shape-words (site-word t s 0) (site-word t s 1) (site-word t s 3) (site-word t s 4) (site-word t s 5)
 shape-is t h s = go (split (eqb (site-word t s 0) 7))
   where
     go : (eqb (site-word t s 0) 7 ≡ true) ⊎ (eqb (site-word t s 0) 7 ≡ false)
         → shape-ok (site-at t s) ≡ shape-words (site-word t s 0) (site-word t s 1) (site-word t s 3) (site-word t s 4) (site-word t s 5)
     go (inl e) =
+        let k : site-at t s .kind ≡ 7 = site-kind t s ∙ eqb-true _ 7 e in
         shape-ok-is (site-at t s)
-        ∙ shape-same (site-kind t s) (source-count t s) (site-pattern t s e) (site-position t s e)
-        (ap (λ (z : ℤ). same-number z (pos 0)) (site-number t s e) ∙ signed-zero (site-word t s 5) (h (site-words * s + 5)))
+        ∙ shape-same (site-kind t s) (source-count t s) (bound-kind t s k) (bound-position t s k)
+        (ap (λ (z : ℤ). same-number z (pos 0)) (bound-number t s k) ∙ sym (zero-word (site-word t s 5) (h (site-words * s + 5))))
         ∙ sym (shape-words-is _ _ _ _ _)
     go (inr e) =
         shape-ok-is (site-at t s)
@@ -78,7 +79,7 @@ module _ (t : List ℕ) (r s : ℕ) where
   unfolding twins site-at
   second-plain h = every-stop _ 1 (ne-eqb _ _ h)
 
-  pub twins-bound : Narrow t → site-word t r 0 ≡ 7 → site-word t s 0 ≡ 7 → twins (site-at t r) (site-at t s) ≡ every (
+  pub twins-bound : Words t → site-word t r 0 ≡ 7 → site-word t s 0 ≡ 7 → twins (site-at t r) (site-at t s) ≡ every (
       getD (site-at t r .sources) 0 0 is getD (site-at t s .sources) 0 0
       ∷ site-word t r 3 is site-word t s 3
       ∷ site-word t r 5 is site-word t s 5
@@ -86,11 +87,11 @@ module _ (t : List ℕ) (r s : ℕ) where
       ∷ [])
   unfolding twins
   twins-bound h p q =
-      let e : (site-word t r 0 is 7) ≡ true = eq-eqb _ _ p in
-      let f : (site-word t s 0 is 7) ≡ true = eq-eqb _ _ q in
-      every-rest _ (ap (λ (k : ℕ). k is 7) (site-kind t r) ∙ e)
-      (every-rest _ (ap (λ (k : ℕ). k is 7) (site-kind t s) ∙ f)
-      (rw (site-pattern t r e, site-pattern t s f, site-number t r e, site-number t s f, site-position t r e, site-position t s f, signed-same (site-word t r 5) (site-word t s 5) (h (site-words * r + 5)) (h (site-words * s + 5)))))
+      let e : site-at t r .kind ≡ 7 = site-kind t r ∙ p in
+      let f : site-at t s .kind ≡ 7 = site-kind t s ∙ q in
+      every-rest _ (eq-eqb _ 7 e)
+      (every-rest _ (eq-eqb _ 7 f)
+      (rw (bound-kind t r e, bound-kind t s f, bound-number t r e, bound-number t s f, bound-position t r e, bound-position t s f, ← same-word (site-word t r 5) (site-word t s 5) (h (site-words * r + 5)) (h (site-words * s + 5)))))
 
 -- THE WHOLE
 three-tests : {a b c a′ b′ c′ : Bool} → a ≡ a′ → b ≡ b′ → c ≡ c′ → every (a ∷ b ∷ c ∷ []) ≡ every (a′ ∷ b′ ∷ c′ ∷ [])
@@ -126,4 +127,4 @@ module _ (n S R : ℕ) (t u : List ℕ) where
   sites-pass-is =
       upto-same (site-fine t) (λ s. site-tidy t s && site-ok (book-of n S R t u) s) S fine-is
       ∙ all-and (site-tidy t) (site-ok (book-of n S R t u)) (upto S)
-      ∙ ap (λ (m : ℕ). all (site-tidy t) (upto S) && all (site-ok (book-of n S R t u)) (upto m)) (sym (sites-number n S R t u))
+      ∙ ap (λ (m : ℕ). all (site-tidy t) (upto S) && all (site-ok (book-of n S R t u)) (upto m)) (sym (sites-length n S R t u))

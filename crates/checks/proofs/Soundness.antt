@@ -16,7 +16,9 @@ use Rattle.laws.specs.Turns.{upto-at, all-map, upto-all}
 use Rattle.checks.specs.Words.{shape-words, site-fine}
 use Rattle.checks.specs.Marks.{SourcesFit, Sourced}
 use Rattle.checks.proofs.Shape.{shape-count}
-use Rattle.checks.proofs.Views.{Narrow, signed-same, site-is}
+use Rattle.tables.specs.Held.{Words}
+use Rattle.tables.proofs.Signs.{same-word}
+use Rattle.tables.proofs.Kept.{site-is}
 use Rattle.checks.proofs.SiteTests.{shape-is, sites-pass-is}
 
 -- two tests that agree below s agree on ids below s
@@ -58,7 +60,7 @@ module _ (n S R : ℕ) (t u : List ℕ) (r : Rule) (h : Sourced S t) where
       ∙ ap (λ (y : Site). (y .kind is 7 implies granted r y) && all (sound-from (book-of n S R t u) r) (y .sources)) (site-is n S R t u s l)
 
 -- WHAT REFUSAL 4 LEAVES TO KNOW
-fits-at : (t : List ℕ) → Narrow t → (s : ℕ) → site-fine t s ≡ true → SourcesFit t s
+fits-at : (t : List ℕ) → Words t → (s : ℕ) → site-fine t s ≡ true → SourcesFit t s
 unfolding site-fine site-at smaller-than shape-words
 fits-at t h s e =
     let shape : shape-words (site-word t s 0) (site-word t s 1) (site-word t s 3) (site-word t s 4) (site-word t s 5) ≡ true = sym (shape-is t h s) ∙ every-at _ 0 e in
@@ -69,11 +71,11 @@ fits-at t h s e =
       below = λ k l. ltb-true (source-at t s k) s (upto-at (λ k. smaller-than s (source-at t s k)) (site-word t s 1) k (sym (all-map (smaller-than s) (source-at t s) (upto (site-word t s 1))) ∙ lower) l);
     }
 
-pub sourced : (n S R : ℕ) (t u : List ℕ) → Narrow t → sites-pass n S R t u ≡ true → Sourced S t
+pub sourced : (n S R : ℕ) (t u : List ℕ) → Words t → sites-pass n S R t u ≡ true → Sourced S t
 sourced n S R t u h e = record { each = λ s l. fits-at t h s (upto-at (site-fine t) S s (sites-pass-is n S R t u ∙ e) l) }
 
 -- A CONSTRAINT GRANTS A KIND 7 SITE, in words
-pub grants-is : (n : ℕ) (t u : List ℕ) → Narrow t → Narrow u → (s i k : ℕ) → site-word t s 0 ≡ 7 → site-word t s 1 ≡ 1 → grants (site-at t s) (constraint-at n u i k) ≡ every (
+pub grants-is : (n : ℕ) (t u : List ℕ) → Words t → Words u → (s i k : ℕ) → site-word t s 0 ≡ 7 → site-word t s 1 ≡ 1 → grants (site-at t s) (constraint-at n u i k) ≡ every (
     site-word t s 2 is rule-word n u i (constraint-start k)
     ∷ rule-word n u i (constraint-start k + 1) is site-word t s 3
     ∷ rule-word n u i (constraint-start k + 3) is site-word t s 5
@@ -81,7 +83,7 @@ pub grants-is : (n : ℕ) (t u : List ℕ) → Narrow t → Narrow u → (s i k 
     ∷ [])
 unfolding grants site-at source-at constraint-at
 grants-is n t u ht hu s i k e f =
-    rw (eq-eqb (site-word t s 0) 7 e, f, signed-same (rule-word n u i (constraint-start k + 3)) (site-word t s 5) (hu (rule-words n * i + (constraint-start k + 3))) (ht (site-words * s + 5)))
+    rw (eq-eqb (site-word t s 0) 7 e, f, ← same-word (rule-word n u i (constraint-start k + 3)) (site-word t s 5) (hu (rule-words n * i + (constraint-start k + 3))) (ht (site-words * s + 5)))
 
 -- THE WHOLE
 pub sound-ok-is : (n S R : ℕ) (t u : List ℕ) → all (λ i. sound (book-of n S R t u) (rule-at n u i)) (upto R) ≡ sound-ok (book-of n S R t u)

@@ -15,7 +15,8 @@ use Rattle.laws.specs.Greatest.{greatest}
 use Rattle.laws.specs.Members.{filter-all}
 use Rattle.tables.specs.Held.{rank-of, test-of, Named}
 use Rattle.order.specs.Parts.{Names, rule-tests, lack-top, passes-top}
-use Rattle.choice.specs.Worth.{same-root, open-at, state-at, count-of, last-code, code-room, state-room, code, key-of, worth, worth-of, pair-worth, constraints-worth, pairs-worth, rank-above, top-of, rule-worth, part-worth}
+use Rattle.sets.specs.View.{same-root}
+use Rattle.choice.specs.Worth.{open-at, state-at, count-of, last-code, code-room, state-room, code, key-of, worth, worth-of, pair-worth, constraints-worth, pairs-worth, rank-above, top-of, rule-worth, part-worth}
 
 module _ (st root : List ℕ) (a b : ℕ) where
   pub shut : testable st a ≡ false → false ≡ open-at st root (test-of a b)

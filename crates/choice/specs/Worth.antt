@@ -13,13 +13,10 @@ use Rattle.definition.specs.Scope.{matched, state}
 use Rattle.definition.specs.Tables.{rule-word, rule-at, book-of}
 use Rattle.laws.specs.Ascending.{asc, Within, Distinct}
 use Rattle.laws.specs.Greatest.{greatest}
+use Rattle.sets.specs.View.{same-root}
 use Rattle.tables.specs.Held.{rank-of, site-slot, end-slot}
 use Rattle.order.specs.Parts.{Names, rule-tests, lack-top, passes-top}
 use Rattle.choice.specs.declared.Best.{Best}
-
--- two different ids are in one class on the path: their roots in the set store are the same and not 0
-unfoldable pub same-root : List ℕ → ℕ → ℕ → Bool
-same-root root x y = not (getD root x 0 is 0) && getD root x 0 is getD root y 0
 
 unfoldable pub open-at : List ℕ → List ℕ → Test → Bool
 open-at st root (on s) = testable st s

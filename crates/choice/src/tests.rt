@@ -7,9 +7,10 @@ ghost use lib.Dec.{leb};
 ghost use Rattle.definition.specs.Lists.{if_then_else_};
 ghost use Rattle.definition.specs.Book.{most};
 ghost use Rattle.definition.specs.Choice.{testable};
+ghost use Rattle.sets.specs.View.{same-root};
 ghost use Rattle.tables.specs.Held.{test-of};
 ghost use Rattle.order.specs.Parts.{Parts};
-ghost use Rattle.choice.specs.Worth.{same-root, open-at, state-at, count-of, code, worth-of};
+ghost use Rattle.choice.specs.Worth.{open-at, state-at, count-of, code, worth-of};
 
 // A test's worth has three parts: its count, its state (0 to 3), and how far its code is below the last, which no code exceeds.
 pub const LAST_CODE: usize = 65791;

@@ -1,11 +1,18 @@
--- Laws of loops over an array: one that replaces each element by a function of it, and one that collects at its front.
+-- Laws of loops over an array: one that replaces each element by a function of it, one that fills it from the front, and one that collects there.
 use mathlib.Core.Path.{_≡_, refl, sym, _∙_, ap}
+use mathlib.Core.Logic.{_⊎_, inl, inr}
+use mathlib.Core.Bool.{true, false}
 use mathlib.Core.List.{List, [], _∷_, _++_, map}
 use Prim.Native.Nat.{ℕ, zero, suc, _+_, _-_, _≤_, _<_}
 use native.Mathlib.Omega.{arith}
 use native.Mathlib.Numerals.{add-one}
-use lib.ListN.{getD, length, set, take, drop, replicate, length-append}
-use lib.Seq.{set-at, append-snoc}
+use lib.Dec.{eqb}
+use lib.ListN.{getD, length, set, take, drop, replicate, length-append, length-set, length-replicate, getD-replicate}
+use lib.Seq.{set-at, append-snoc, ext-getD, getD-take, getD-set-same, getD-set-other, length-take-le}
+use borrow.Author.Tests.{eqb-true, eqb-false}
+use Rattle.definition.specs.Lists.{upto}
+use Rattle.laws.specs.Ranges.{from-length, from-at}
+use Rattle.laws.specs.Tests.{split}
 
 -- the first i elements are replaced, the others are as they were
 abbrev pub mapped : {A : Type 0} → (A → A) → List A → ℕ → List A
@@ -36,6 +43,36 @@ module _ {A : Type 0} {f : A → A} {old : List A} where
 
   pub map-ends : {i : ℕ} {new : List A} → Mapped f old i new → length old ≤ i → new ≡ map f old
   map-ends {i} m h = m .so-far ∙ whole f old i h
+
+-- a loop that fills: the entries of l below i are f's
+pub record Filled (f : ℕ → ℕ) (i : ℕ) (l₀ l : List ℕ) : Type 0 where
+  pub inside : i ≤ length l
+  pub long : length l ≡ length l₀
+  pub so-far : (k : ℕ) → k < i → getD l k 0 ≡ f k
+
+module _ (f : ℕ → ℕ) where
+  pub fill-starts : (l : List ℕ) → Filled f 0 l l
+  fill-starts l = record { inside = omega arith; long = refl; so-far = λ k h. absurd (omega arith) }
+
+  pub fill-turn : {i : ℕ} {l₀ l : List ℕ} → Filled f i l₀ l → i < length l → {v : ℕ} → v ≡ f i → Filled f (i + 1) l₀ (set l i v)
+  fill-turn {i} {l₀} {l} g h {v} e = record {
+    inside = let z = length-set l i v in omega arith;
+    long = length-set l i v ∙ g .long;
+    so-far = λ k q. go k q (split (eqb k i));
+  }
+    where
+      go : (k : ℕ) → k < i + 1 → (eqb k i ≡ true) ⊎ (eqb k i ≡ false) → getD (set l i v) k 0 ≡ f k
+      go k q (inl t) = let s = eqb-true k i t in rw s (getD-set-same l i v 0 h ∙ e)
+      go k q (inr t) = let s = eqb-false k i t in getD-set-other l i k v 0 s ∙ g .so-far k (omega arith)
+
+pub all-zero : {l₀ l : List ℕ} {k : ℕ} → Filled (λ _. 0) k l₀ l → length l ≤ k → l ≡ replicate (length l₀) 0
+all-zero {l₀} {l} g h = ext-getD 0 l (replicate (length l₀) 0) (g .long ∙ sym (length-replicate (length l₀) 0)) (λ j q. g .so-far j (omega arith) ∙ sym (getD-replicate (length l₀) j 0 0 (omega (arith, g .long))))
+
+-- the front of a list in which each number stands at its own place
+pub front-range : (R n : ℕ) (l : List ℕ) → R ≤ n → length l ≡ n → ((k : ℕ) → k < n → getD l k 0 ≡ k) → take R l ≡ upto R
+front-range R n l h m e =
+    let z : length (take R l) ≡ R = length-take-le R l (omega arith) in
+    ext-getD 0 (take R l) (upto R) (z ∙ sym (from-length 0 R)) (λ k q. getD-take R l k 0 (omega arith) ∙ e k (omega arith) ∙ sym (from-at 0 R k (omega arith) ∙ omega arith))
 
 -- a loop that collects: the n elements of xs stand at the front of an array of `size` elements, and the others are d
 pub record Collected {A : Type 0} (size : ℕ) (d : A) (xs : List A) (n : ℕ) (array : List A) : Type 0 where

@@ -78,6 +78,11 @@ module _ {A : Type 0} where
   some-member [] h = absurd (omega arith)
   some-member (x ∷ xs) h = (x, List·Memᴰ·head refl)
 
+-- where every member passes, all are kept
+pub filter-keeps : {A : Type 0} (p : A → Bool) (xs : List A) → ((x : A) → List·Memᴰ x xs → p x ≡ true) → filter p xs ≡ xs
+filter-keeps p [] h = refl
+filter-keeps p (x ∷ xs) h = rw (h x (List·Memᴰ·head refl)) (ap (λ l. x ∷ l) (filter-keeps p xs (λ y m. h y (List·Memᴰ·tail m))))
+
 module _ {A : Type 0} (p q : A → Bool) where
   -- two tests that agree on the members
   pub filter-same : (xs : List A) → ((x : A) → List·Memᴰ x xs → p x ≡ q x) → filter p xs ≡ filter q xs

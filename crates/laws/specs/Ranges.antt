@@ -23,6 +23,11 @@ pub from-length : (k n : ℕ) → length (from k n) ≡ n
 from-length k zero = refl
 from-length k (suc n) = ap suc (from-length (suc k) n)
 
+pub from-at : (k n i : ℕ) → i < n → getD (from k n) i 0 ≡ k + i
+from-at k zero i h = absurd (omega arith)
+from-at k (suc n) zero h = omega arith
+from-at k (suc n) (suc i) h = from-at (suc k) n i (omega arith) ∙ omega arith
+
 -- entry i of what f makes of a range
 pub map-at : {A : Type 0} (f : ℕ → A) (k n i : ℕ) (d : A) → i < n → getD (map f (from k n)) i d ≡ f (k + i)
 map-at f k zero i d h = absurd (omega arith)

@@ -6,11 +6,11 @@ use mathlib.Core.List.{List, [], _∷_, _++_, map, append-assoc, append-nil}
 use Prim.Native.Nat.{ℕ, zero, suc, _+_, _*_, _<_}
 use native.Mathlib.Omega.{arith}
 use lib.Dec.{ltb}
-use lib.ListN.{length, getD, length-append, length-map}
+use lib.ListN.{length, getD, take, length-append, length-map}
 use borrow.Author.Tests.{ltb-true, ltb-false}
 use Rattle.definition.specs.Lists.{from, upto, all, any, flat}
 use Rattle.laws.specs.Tests.{split, clash, same-test, and}
-use Rattle.laws.specs.Answers.{and-assoc, and-swap, and-false}
+use Rattle.laws.specs.Answers.{and-assoc, and-swap, and-false, and-second}
 use Rattle.laws.specs.Members.{all-from, all-same, from-bounds}
 use Rattle.laws.specs.Ranges.{from-more, upto-more, from-length, map-at}
 
@@ -56,6 +56,13 @@ from-stop p a (suc n) (suc k) h e =
 
 pub upto-stop : (p : ℕ → Bool) (n k : ℕ) → k < n → p k ≡ false → all p (upto n) ≡ false
 upto-stop p n k h e = from-stop p 0 n k h (ap p (omega arith) ∙ e)
+
+-- what stands at i among the first n entries fails
+pub front-stop : (p : ℕ → Bool) (l : List ℕ) (i n : ℕ) → i < n → i < length l → p (getD l i 0) ≡ false → all p (take n l) ≡ false
+front-stop p [] i n h k e = absurd (omega arith)
+front-stop p (x ∷ l) i zero h k e = absurd (omega arith)
+front-stop p (x ∷ l) zero (suc n) h k e = rw e
+front-stop p (x ∷ l) (suc i) (suc n) h k e = and-second (p x) (front-stop p l i n (omega arith) (omega arith) e)
 
 -- what every number below n says
 pub from-at : (p : ℕ → Bool) (a n k : ℕ) → all p (from a n) ≡ true → k < n → p (a + k) ≡ true

@@ -59,11 +59,17 @@ module _ {b t u : List ℕ} {c : Contents} (d : Decoded b c t u) where
         ap₂ (book-of slots s n) (ap (λ k. take (site-words * k) t) (told .1) ∙ d .sites (told .0)) (ap (λ k. take (rule-words slots * k) u) (told .2) ∙ d .rules (told .0))
         ∙ ap₂ (λ x y. book-of slots x y (site-table b (sites-named b)) (rule-table slots b (sites-named b) (rules-named b))) (told .1) (told .2)
 
-    pub tables-accepted : site-words * most ≤ length t → rule-words slots * most ≤ length u → Accepted s n (take (site-words * s) t) (take (rule-words slots * n) u)
+    pub site-room : site-words * s ≤ length t
+    site-room = let r = d .roomy (told .0) .sites in omega (arith, few-sites)
+
+    pub rule-room : rule-words slots * n ≤ length u
+    rule-room = let r = d .roomy (told .0) .rules in omega (arith, few-rules)
+
+    pub tables-accepted : Accepted s n (take (site-words * s) t) (take (rule-words slots * n) u)
     unfolding book-from
-    tables-accepted p q =
-        let x = length-take-le (site-words * s) t (omega (arith, few-sites)) in
-        let y = length-take-le (rule-words slots * n) u (omega (arith, few-rules)) in
+    tables-accepted =
+        let x = length-take-le (site-words * s) t site-room in
+        let y = length-take-le (rule-words slots * n) u rule-room in
         record {
           table = book-table s n (take (site-words * s) t) (take (rule-words slots * n) u) few-sites (omega arith) (ap sites-ok book-is ∙ known .passed .four);
           few = few-rules;

@@ -1,7 +1,6 @@
 -- The proofs of `plan`.
 pub mod Bounds
 pub mod Scoping
-pub mod Parting
 pub mod Ready
 pub mod Returning
 pub mod Choosing
@@ -11,7 +10,6 @@ pub mod Arms
 pub mod Making
 pub mod ArmsLoop
 pub mod StepsLoop
-pub mod Filling
 pub mod Rooting
 pub mod Deciding
 pub mod Callers

@@ -13,7 +13,10 @@ use Rattle.definition.specs.Scope.{worked-out, nowhere, root}
 use Rattle.definition.specs.Plan.{block, tree}
 use Rattle.definition.specs.Tree.{nesting, words}
 use Rattle.definition.specs.Answers.{answered, written}
-use Rattle.laws.specs.Ascending.{asc}
+use Rattle.laws.specs.Members.{from-bounds}
+use Rattle.laws.specs.Loops.{front-range}
+use Rattle.laws.specs.Ascending.{asc, asc-upto, from-distinct}
+use Rattle.laws.specs.Lending.{front-back}
 use Rattle.theorems.specs.Refusals.{rules-length}
 use Rattle.room.specs.Wrote.{Wrote}
 use Rattle.room.proofs.Written.{whole-fits}
@@ -21,13 +24,15 @@ use Rattle.scope.specs.declared.Scope.{Scope}
 use Rattle.scope.specs.States.{Fresh}
 use Rattle.scope.proofs.Standing.{joined-none, stands-root}
 use Rattle.plan.specs.declared.Planned.{Planned}
-use Rattle.plan.specs.Work.{Accepted, Scoped, Planning}
+use Rattle.plan.specs.Work.{Accepted, Part, Scoped, Planning}
 use Rattle.plan.specs.Made.{BlockMade, Leaves}
 use Rattle.plan.proofs.Bounds.{root-bounded}
-use Rattle.plan.proofs.Filling.{first-rules, all-part, asc-upto, front-back}
 
 root-scoped : (b : Book) {s : Scope} → Fresh (worked-out b nowhere) s → Scoped s
 root-scoped b f = record { joined = []; classes = joined-none (f .root); states-ok = rw (f .states) (root-bounded b) }
+
+all-part : (R : ℕ) → Part R (upto R)
+all-part R = record { within = λ i m. (let z = from-bounds 0 R i m in omega arith); distinct = from-distinct 0 R }
 
 module _ {S R : ℕ} {sites rules : List ℕ} (a : Accepted S R sites rules) (order : List ℕ) (n : length order ≡ most) (e : (k : ℕ) → k < most → getD order k 0 ≡ k)
     {s : Scope} (f : Fresh (worked-out (book-of slots S R sites rules) nowhere) s) {l : List ℕ} where
@@ -35,7 +40,7 @@ module _ {S R : ℕ} {sites rules : List ℕ} (a : Accepted S R sites rules) (or
   root-planning h = record {
     book = a;
     scope = root-scoped (book-of slots S R sites rules) f;
-    rules-of = rw (first-rules R order (a .few) n e) (all-part R);
+    rules-of = rw (front-range R most order (a .few) n e) (all-part R);
     short = h;
     inside = omega arith;
   }
@@ -44,7 +49,7 @@ module _ {S R : ℕ} {sites rules : List ℕ} (a : Accepted S R sites rules) (or
   unfolding tree
   root-made {r} {m} k =
       let b = book-of slots S R sites rules in
-      let t : asc R (take R order) ≡ upto (length (b .rules)) = ap (asc R) (first-rules R order (a .few) n e) ∙ asc-upto R ∙ ap upto (sym (rules-length slots S R sites rules)) in
+      let t : asc R (take R order) ≡ upto (length (b .rules)) = ap (asc R) (front-range R most order (a .few) n e) ∙ asc-upto R ∙ ap upto (sym (rules-length slots S R sites rules)) in
       subst (λ w. Wrote l 0 (words (block b nesting (root b) w)) r m) t (k .wrote (root b) (stands-root b f))
 
 -- the front n of the room was lent: all of it, or more than any tree needs

@@ -1,6 +1,6 @@
 -- The code's scope stands for the definition's, and goes on doing so in each way that a scope changes.
 use mathlib.Core.Path.{_≡_, refl, _∙_, ap, subst}
-use mathlib.Core.Bool.{Bool, _&&_, not}
+use mathlib.Core.Bool.{_&&_, not}
 use mathlib.Core.List.{List, []}
 use Prim.Native.Nat.{ℕ, zero, suc, _<_}
 use native.Mathlib.Omega.{arith}
@@ -12,18 +12,17 @@ use Rattle.definition.specs.Book.{Pair, Pattern, Book, most, linked}
 use Rattle.definition.specs.Sets.{Sets, same-class, merge}
 use Rattle.definition.specs.Scope as plan
 use Rattle.definition.specs.Scope.{nowhere, worked-out, arm-states, use-all, root, inside, joining}
-use Rattle.definition.specs.Answers.{known, mergeable, merged-sets, same-answer}
+use Rattle.definition.specs.Answers.{known, mergeable, merged-sets}
 use Rattle.definition.specs.Tree.{let-words}
 use Rattle.sets.specs.declared.Merge.{Merge}
-use Rattle.sets.specs.declared.Told.{Told}
-use Rattle.sets.specs.View.{class-of, read, view}
-use Rattle.sets.specs.Promises.{Merges, Tells}
+use Rattle.sets.specs.View.{class-of, read, view, same-root}
+use Rattle.sets.specs.Promises.{Merges}
 use Rattle.room.specs.Wrote.{Wrote}
 use Rattle.scope.specs.declared.Scope.{Scope}
 use Rattle.scope.specs.declared.Used.{Used}
 use Rattle.scope.specs.States.{With, Fresh}
 use Rattle.scope.specs.Uses.{Listed}
-use Rattle.scope.specs.Classes.{label-in, Joined, same-root, store-of, Joins, Stands}
+use Rattle.scope.specs.Classes.{label-in, Joined, store-of, Joins, Stands}
 use Rattle.scope.proofs.Labels.{made-rooted, merged-linked, same-linked}
 
 -- CLASSES
@@ -47,27 +46,15 @@ joined-none {root} {rank} e = record {
     empty z r p = omega (arith, here z)
 
 module _ {ps : List Pair} {root rank : List ℕ} (j : Joined ps root rank) where
-  pub told-linked : (x y : ℕ) → x < most → y < most → (x ≡ y → ⊥) → (t : Told) → Tells root x y t → t ≡ Told.Is (linked ps x y)
-  unfolding same-answer known
-  told-linked x y hx hy n t h =
-      h .answer rank
-      ∙ rw (lt-ltb x most hx, lt-ltb y most hy) (ap (λ (o : Bool). Told.Is o) (same-linked ps (read root rank) (made-rooted root rank (j .made)) (j .agree) x y n))
-
   -- by the roots alone
   pub roots-linked : (x y : ℕ) → (x ≡ y → ⊥) → same-root root x y ≡ linked ps x y
+  unfolding same-root
   roots-linked x y n = go (getD root x 0) (getD root y 0) ∙ same-linked ps (read root rank) (made-rooted root rank (j .made)) (j .agree) x y n
     where
       go : (p q : ℕ) → not (p is 0) && p is q ≡ same-class (class-of rank p) (class-of rank q)
       go zero q = refl
       go (suc p) zero = rw (ne-eqb (suc p) 0 (λ e. omega arith))
       go (suc p) (suc q) = rw (ne-eqb (suc p) 0 (λ e. omega arith)) (eqb·suc-suc p q)
-
--- what a match on the answer tells
-pub told-is : {t : Told} {o p : Bool} → t ≡ Told.Is o → t ≡ Told.Is p → p ≡ o
-told-is e f = cc
-
-pub told-not : {t : Told} {o : Bool} {n : ℕ} → t ≡ Told.Is o → t ≡ Told.Refused n → ⊥
-told-not e f = let z : _≡_ {A = ℕ} 0 1 = cc in omega arith
 
 pub joins : (s : Scope) (x y : ℕ) → x < most → y < most → (x ≡ y → ⊥) → {m : Merge} → Merges (store-of s) x y m
     → Joins x y s (record { states = s .states; root = m .store .root; rank = m .store .rank })

@@ -1,5 +1,5 @@
 -- A pass over the sites in id order, as a loop makes it, and the tests that it asks of a site of the table.
-use mathlib.Core.Path.{_≡_, refl}
+use mathlib.Core.Path.{_≡_, refl, _∙_}
 use mathlib.Core.Bool.{Bool, true, false, and-true}
 use mathlib.Core.List.{List}
 use Prim.Native.Nat.{ℕ, _+_, _≤_, _<_}
@@ -23,10 +23,10 @@ pub sweep-starts : (test : List ℕ → ℕ → Bool) (v : ℕ) (s : Scope) → 
 sweep-starts test v s = record { so-far = record { states = refl; root = refl; rank = refl } }
 
 module _ {test : List ℕ → ℕ → Bool} {v x : ℕ} {s r : Scope} (h : Swept test v x s r) where
-  pub sweep-hit : test (r .states) x ≡ true → Swept test v (x + 1) s (record { states = set (r .states) x v; root = r .root; rank = r .rank })
-  sweep-hit e =
+  pub sweep-hit : test (r .states) x ≡ true → {st : List ℕ} → st ≡ set (r .states) x v → Swept test v (x + 1) s (record { states = st; root = r .root; rank = r .rank })
+  sweep-hit e q =
       let f : test (sweep test v x (s .states)) x ≡ true = rw (h .so-far .states) at e in
-      record { so-far = record { states = rw (add-one, f, h .so-far .states) refl; root = h .so-far .root; rank = h .so-far .rank } }
+      record { so-far = record { states = q ∙ rw (add-one, f, h .so-far .states) refl; root = h .so-far .root; rank = h .so-far .rank } }
 
   pub sweep-skip : test (r .states) x ≡ false → Swept test v (x + 1) s r
   sweep-skip e =

@@ -1,5 +1,5 @@
 -- Uses of sites, one after another: what holds between two of them, and the laws that put them together.
-use mathlib.Core.Path.{_≡_, refl, sym, _∙_, ap}
+use mathlib.Core.Path.{_≡_, refl, sym, _∙_, ap, subst}
 use mathlib.Core.Bool.{true, false}
 use mathlib.Core.List.{List, [], _∷_, _++_, append-assoc, append-nil}
 use Prim.Native.Nat.{ℕ, zero, suc, _+_, _-_, _≤_, _<_}
@@ -100,8 +100,12 @@ module _ (s : Scope) (e : length (s .states) ≡ most) where
   pub low-few : low (s .states) ≤ most
   low-few = omega (arith, low-length (s .states))
 
-  pub marked-few : (x : ℕ) → low (marked s x .states) ≤ most
-  marked-few x = omega (arith, low-length (set (s .states) x emitted), length-set (s .states) x emitted)
+  pub marked-few : (x : ℕ) {st : List ℕ} → st ≡ set (s .states) x emitted → low st ≤ most
+  marked-few x q = rw q (omega (arith, low-length (set (s .states) x emitted), length-set (s .states) x emitted))
+
+pub from-marked : {uses : Use → Use} (s : Scope) (x : ℕ) {st : List ℕ} → st ≡ set (s .states) x emitted → {l : List ℕ} {at : ℕ} {r : Used} {m : List ℕ}
+    → Placed uses (record { states = st; root = s .root; rank = s .rank }) l at r m → Placed uses (marked s x) l at r m
+from-marked {uses} s x q {l} {at} {r} {m} w = subst (λ st. Placed uses (record { states = st; root = s .root; rank = s .rank }) l at r m) q w
 
 module _ {b : Book} {S : ℕ} {t : List ℕ} (d : Drawn S t b) (x : ℕ) (g : x < S) where
   use-known : (f : ℕ) (u : Use) → emitted ≤ state (u .states) x → use-below f b x u ≡ u

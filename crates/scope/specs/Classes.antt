@@ -1,9 +1,7 @@
 -- The classes joined on the path, as the scope's store of sets has them; and which scope of the code is which of the definition.
 use mathlib.Core.Path.{_≡_}
-use mathlib.Core.Bool.{Bool, _&&_, not}
 use mathlib.Core.List.{List, _∷_}
 use Prim.Native.Nat.{ℕ}
-use lib.ListN.{getD}
 use Rattle.definition.specs.Lists.{_is_}
 use Rattle.definition.specs.Book.{Pair, linked}
 use Rattle.definition.specs.Sets.{Class, unmerged, in-set}
@@ -21,10 +19,6 @@ label-in (in-set r k) z = r
 pub record Joined (ps : List Pair) (root rank : List ℕ) : Type 0 where
   pub made : Made (record { root = root; rank = rank })
   pub agree : (u v : ℕ) → label-in (read root rank u) u is label-in (read root rank v) v ≡ linked ps u v
-
--- by the roots alone: two ids have the same root
-abbrev pub same-root : List ℕ → ℕ → ℕ → Bool
-same-root root x y = not (getD root x 0 is 0) && getD root x 0 is getD root y 0
 
 abbrev pub store-of : Scope → Store
 store-of s = record { root = s .root; rank = s .rank }

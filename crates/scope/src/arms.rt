@@ -4,6 +4,7 @@ use crate::MATCHED;
 use crate::Place;
 use crate::Scope;
 use crate::states::add_bindings;
+use crate::states::set_ready;
 use tables::Shape;
 ghost use mathlib.Core.Path.{_≡_};
 ghost use mathlib.Core.List.{map};
@@ -49,7 +50,7 @@ fn emit_bound(sites: &[u32], n: usize, s: usize, p: Shape, scope: Scope) -> Scop
     let mut x: usize = 0;
     while x < n {
         if is_bound(sites, n, s, p, x) {
-            next.states[x] = EMITTED;
+            set_ready(&mut next.states, x, EMITTED);
         }
         x += 1;
     }
@@ -62,7 +63,7 @@ pub fn enter_arm(sites: &[u32], n: usize, s: usize, p: Shape, scope: Scope) -> S
     ensures { λ r. ⌜ ((b : Book) → Drawn n (now (sites .entry)) b → With (arm-states b (scope .states) s (shown p)) scope r) ⌝ }
 {
     let mut next = scope;
-    next.states[s] = MATCHED;
+    set_ready(&mut next.states, s, MATCHED);
     let bound = emit_bound(sites, n, s, p, next);
     add_bindings(sites, n, bound)
 }

@@ -3,11 +3,10 @@ use crate::Scope;
 use sets::Store;
 use sets::Told;
 ghost use mathlib.Core.Path.{_≡_};
-ghost use mathlib.Core.List.{List};
-ghost use Prim.Native.Nat.{ℕ, _<_};
-ghost use Rattle.definition.specs.Book.{Pair, most, linked};
+ghost use Prim.Native.Nat.{_<_};
+ghost use Rattle.definition.specs.Book.{most};
 ghost use Rattle.sets.specs.View.{Made};
-ghost use Rattle.scope.specs.Classes.{store-of, Joined, Joins};
+ghost use Rattle.scope.specs.Classes.{store-of, Joins};
 
 // Internal: the scope inside an Equal, where the classes of two sites are one.
 pub fn join(scope: Scope, x: usize, y: usize) -> Scope
@@ -22,15 +21,4 @@ pub fn join(scope: Scope, x: usize, y: usize) -> Scope
     let root = store.root;
     let rank = store.rank;
     Scope { states, root, rank }
-}
-
-// Internal: whether two different sites are in one class, by the scope's roots.
-pub fn in_one_class(root: &[u8; 252], x: usize, y: usize) -> bool
-    requires { ⌜ (x < most) × ((y < most) × (x ≡ y → ⊥)) ⌝ }
-    ensures { λ r. ⌜ ((ps : List Pair) (rank : List ℕ) → Joined ps (now (root .entry)) rank → r ≡ linked ps x y) ⌝ }
-{
-    let Told::Is(same) = sets::told_of(root, x, y) else {
-        return false;
-    };
-    same
 }

@@ -2,7 +2,7 @@
 use crate::EMITTED;
 use crate::Scope;
 use crate::Used;
-ghost use mathlib.Core.Path.{_≡_};
+use crate::states::set_ready;
 ghost use Prim.Native.Nat.{ℕ, _+_, _<_, _≤_};
 ghost use lib.ListN.{length};
 ghost use Rattle.definition.specs.Lists.{each};
@@ -11,7 +11,7 @@ ghost use Rattle.definition.specs.Tables.{rule-at};
 ghost use Rattle.definition.specs.Scope.{use-below, use-site};
 ghost use Rattle.definition.specs.Plan.{uses-of, tested};
 ghost use Rattle.tables.specs.Held.{test-of};
-ghost use Rattle.scope.specs.Drawn.{Table, Drawn, Ids, Usable};
+ghost use Rattle.scope.specs.Drawn.{Table, Drawn, Usable};
 ghost use Rattle.scope.specs.Uses.{Placed, Listed};
 
 // Internal: uses a site, if it is below Emitted: marks it, uses its sources in listed order, and lists it. The id falls at every call.
@@ -30,7 +30,7 @@ pub fn use_expr(
         return Used { scope, at, lets: 0 };
     }
     let mut scope = scope;
-    scope.states[x] = EMITTED;
+    set_ready(&mut scope.states, x, EMITTED);
     let sources = tables::source_count(sites, x);
     let mut at = at;
     let mut lets: u32 = 0;
@@ -48,33 +48,6 @@ pub fn use_expr(
     }
     at = room::put_word(room, at, x as u32);
     lets += 1;
-    Used { scope, at, lets }
-}
-
-// Internal: uses sites one after another.
-pub fn use_all(
-    sites: &[u32],
-    n: usize,
-    scope: Scope,
-    ids: &[u32],
-    room: &mut [u32],
-    at: usize,
-) -> Used
-    requires { ⌜ Table n (now sites) × (Ids n (now ids) × (at ≤ length (now room) + 1)) ⌝ }
-    ensures { λ r. ⌜ ((b : Book) → Drawn n (now (sites .entry)) b → Placed (each (use-site b) (now (ids .entry))) scope (now (room .entry)) at r (now (room .exit))) ⌝ }
-{
-    let mut scope = scope;
-    let mut at = at;
-    let mut lets: u32 = 0;
-    let mut k: usize = 0;
-    while k < ids.len() {
-        let x = tables::wide(ids[k]);
-        let used = use_expr(sites, n, scope, x, room, at);
-        scope = used.scope;
-        at = used.at;
-        lets += used.lets;
-        k += 1;
-    }
     Used { scope, at, lets }
 }
 

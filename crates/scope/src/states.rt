@@ -4,7 +4,8 @@ use crate::Scope;
 use crate::UNAVAILABLE;
 ghost use mathlib.Core.Path.{_≡_};
 ghost use Prim.Native.Nat.{_<_};
-ghost use Rattle.definition.specs.Book.{Book};
+ghost use lib.ListN.{set};
+ghost use Rattle.definition.specs.Book.{Book, most};
 ghost use Rattle.definition.specs.Scope.{ready, nowhere, worked-out};
 ghost use Rattle.scope.specs.Drawn.{Table, Drawn};
 ghost use Rattle.scope.specs.States.{Fresh, With};
@@ -42,6 +43,14 @@ fn is_ready(sites: &[u32], n: usize, states: &[u8; 252], x: usize) -> bool
     true
 }
 
+// Internal: a site gets a state.
+pub fn set_ready(states: &mut [u8; 252], x: usize, state: u8)
+    requires { ⌜ x < most ⌝ }
+    ensures { λ r. ⌜ now (states .exit) ≡ set (now (states .entry)) x state ⌝ }
+{
+    states[x] = state;
+}
+
 // Internal: availability worked out. One pass in id order meets a site's sources before the site.
 pub fn add_bindings(sites: &[u32], n: usize, scope: Scope) -> Scope
     requires { ⌜ Table n (now sites) ⌝ }
@@ -51,7 +60,7 @@ pub fn add_bindings(sites: &[u32], n: usize, scope: Scope) -> Scope
     let mut x: usize = 0;
     while x < n {
         if is_ready(sites, n, &next.states, x) {
-            next.states[x] = AVAILABLE;
+            set_ready(&mut next.states, x, AVAILABLE);
         }
         x += 1;
     }

@@ -1,5 +1,6 @@
 -- How a store's two arrays are read as the definition's sets, and which stores the calls make.
 use mathlib.Core.Path.{_≡_}
+use mathlib.Core.Bool.{Bool, _&&_, not}
 use mathlib.Core.List.{List}
 use Prim.Native.Nat.{ℕ, zero, suc, _<_}
 use lib.ListN.{getD, length}
@@ -17,6 +18,10 @@ read root rank z = class-of rank (getD root z 0)
 
 abbrev pub view : Store → Sets
 view s = read (s .root) (s .rank)
+
+-- by the roots alone, two different ids are in one set: their entries are the same and not 0
+unfoldable pub same-root : List ℕ → ℕ → ℕ → Bool
+same-root root x y = not (getD root x 0 is 0) && getD root x 0 is getD root y 0
 
 -- how often v stands in a list
 abbrev pub tally : ℕ → List ℕ → ℕ

@@ -7,7 +7,7 @@ use native.Mathlib.Omega.{arith}
 use lib.ListN.{length, getD}
 use borrow.Author.Tests.{eq-eqb, ne-eqb, lt-ltb, le-ltb}
 use Rattle.definition.specs.Book.{slots}
-use Rattle.definition.specs.Lists.{_is_, upto, empty}
+use Rattle.definition.specs.Lists.{_is_, if_then_else_, upto, empty}
 use Rattle.definition.specs.Scope.{never-listed}
 use Rattle.definition.specs.Tables.{signed, site-word, source-at, site-at, rule-word, constraint-at, pair-at, impure-at, rule-at}
 use Rattle.laws.specs.Turns.{length-map-upto, get-map-upto}
@@ -25,6 +25,15 @@ module _ (t : List ℕ) (s : ℕ) where
   pub source-is : (k : ℕ) → k < length (site-at t s .sources) → getD (site-at t s .sources) k 0 ≡ site-word t s (2 + k)
   unfolding site-at source-at
   source-is k h = get-map-upto (source-at t s) (site-word t s 1) k 0 (let z = source-count in omega arith)
+
+  -- the first source, or 0 where there is none
+  pub first-source : getD (site-at t s .sources) 0 0 ≡ (if site-word t s 1 is 0 then 0 else site-word t s 2)
+  unfolding site-at source-at
+  first-source = go (site-word t s 1) (source-at t s)
+    where
+      go : (n : ℕ) (f : ℕ → ℕ) → getD (map f (upto n)) 0 0 ≡ (if n is 0 then 0 else f 0)
+      go zero f = refl
+      go (suc n) f = rw (ne-eqb (suc n) 0 (omega arith))
 
   -- a kind 7 site's pattern kind, position and number
   module _ (e : site-at t s .kind ≡ 7) where

@@ -6,6 +6,7 @@ use mathlib.Core.List.{List}
 use Prim.Native.Nat.{ℕ, _-_, _^_, _≤_, _<_, compare}
 use native.Mathlib.Omega.{arith}
 use lib.Dec.{eqb, ltb, leb}
+use lib.IntN.{pos}
 use lib.Signed.{leZ}
 use borrow.Author.Tests.{eqb-true, eq-eqb, leb-true, le-leb, lt-leb, ltb-true, ltb-false}
 use Rattle.definition.specs.Book.{slots}
@@ -52,6 +53,9 @@ same-word a b ha hb = go (split (same-number (signed a) (signed b))) (split (eqb
     go (inl e) q = eq-eqb a b (signed-back a b ha hb (same-number-equal (signed a) (signed b) e)) ∙ sym e
     go (inr e) (inl q) = q ∙ sym (subst (λ z. same-number (signed a) (signed z) ≡ true) (eqb-true a b q) (same-number-self (signed a)))
     go (inr e) (inr q) = q ∙ sym e
+
+pub zero-word : (a : ℕ) → a < 2 ^ 32 → eqb a 0 ≡ same-number (signed a) (pos 0)
+zero-word a ha = same-word a 0 ha (omega arith)
 
 -- THE THREE-WAY ORDER
 pub signed-compare : (a b : ℕ) → a < 2 ^ 32 → b < 2 ^ 32 → compare-signed (signed a) (signed b) ≡ compare (biased a) (biased b)

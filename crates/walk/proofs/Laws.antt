@@ -12,19 +12,18 @@ use mir.Facts.{toZ-ofZ}
 use lib.Dec.{eqb, ltb, leb, isEq}
 use lib.IntN.{ℤ, pos}
 use lib.ListN.{length, getD, take, drop, length-drop}
-use lib.Seq.{take-suc, take-all, getD-drop}
+use lib.Seq.{take-suc, getD-drop}
 use borrow.Author.Tests.{lt-leb, le-leb, lt-ltb, le-ltb, eq-eqb, ne-eqb, leb-true, leb-false, ltb-true, ltb-false}
 use Rattle.definition.specs.Lists.{all, compare-signed}
 use Rattle.definition.specs.Walk.{Hit, holds, placed-in}
 use Rattle.definition.specs.Read.{numbers, id-ok, place-ok, read-lets, read-places, place-of}
 use Rattle.definition.specs.Tables.{signed}
+use Rattle.laws.specs.Tests.{and}
+use Rattle.laws.specs.Turns.{all-append, all-map, front-stop}
+use Rattle.laws.specs.Lending.{tail-part}
 use Rattle.walk.specs.declared.Stop.{Stop}
 use Rattle.walk.specs.declared.Seen.{Seen}
 use Rattle.walk.specs.Ends.{above, Good, Ends, ends, never, Held}
-
--- a part that runs to the end
-pub tail-part : (w : List ℕ) (n : ℕ) → take (length w - n) (drop n w) ≡ drop n w
-tail-part w n = take-all (length w - n) (drop n w) (simp length-drop (omega arith))
 
 -- WHAT A CALLEE TOLD
 module _ {A : Type 0} {names : A → List ℕ} {stop : A → Option Hit} {o : Option (A × List ℕ)} {w : List ℕ} {r : Seen} where
@@ -61,14 +60,6 @@ above-all (x ∷ xs) n = ap (λ b. ltb x n && b) (above-all xs n) ∙ go (ltb x 
     go true e false f = sym (lt-leb (max (suc x) (above xs)) n (omega (arith, leb-false (above xs) n f)))
     go false e b f = sym (lt-leb (max (suc x) (above xs)) n (omega (arith, ltb-false x n e)))
 
-all-snoc : (q : ℕ → Bool) (xs : List ℕ) (x : ℕ) → all q xs ≡ true → q x ≡ true → all q (xs ++ (x ∷ [])) ≡ true
-all-snoc q [] x e f = rw f
-all-snoc q (y ∷ xs) x e f = go (q y) e (λ g. all-snoc q xs x g f)
-  where
-    go : (b : Bool) → b && all q xs ≡ true → (all q xs ≡ true → all q (xs ++ (x ∷ [])) ≡ true) → b && all q (xs ++ (x ∷ [])) ≡ true
-    go true g k = k g
-    go false g k = g
-
 -- the first i words pass a test, and f of them is t
 pub record Upto (q : ℕ → Bool) (f : List ℕ → ℕ) (l : List ℕ) (i t : ℕ) : Type 0 where
   pub pass : all q (take i l) ≡ true
@@ -79,19 +70,9 @@ pub upto-more : {q : ℕ → Bool} {f : List ℕ → ℕ} {l : List ℕ} {i t : 
 upto-more {q} {f} {l} {i} {t} p fa u h e g =
     let s : take (i + 1) l ≡ take i l ++ (getD l i 0 ∷ []) = rw add-one (take-suc l i 0 h) in
     record {
-      pass = rw s (all-snoc q (take i l) (getD l i 0) (p .pass) e);
+      pass = rw s (all-append q (take i l) (getD l i 0 ∷ []) ∙ and (p .pass) (and e refl));
       top = g ∙ (rw s (let z = fa (take i l) (getD l i 0) in omega (arith, z, p .top)));
     }
-
-pub all-bad : (q : ℕ → Bool) (l : List ℕ) (i n : ℕ) → i < n → i < length l → q (getD l i 0) ≡ false → all q (take n l) ≡ false
-all-bad q [] i n h k e = absurd (omega arith)
-all-bad q (x ∷ l) i zero h k e = absurd (omega arith)
-all-bad q (x ∷ l) zero (suc n) h k e = rw e
-all-bad q (x ∷ l) (suc i) (suc n) h k e = go (q x) (all-bad q l i n (omega arith) (omega arith) e)
-  where
-    go : (b : Bool) → all q (take n l) ≡ false → b && all q (take n l) ≡ false
-    go true g = g
-    go false g = refl
 
 pub id-yes : (x : ℕ) → x ≤ 251 → id-ok x ≡ true
 unfolding id-ok
@@ -138,7 +119,7 @@ unfolding read-lets
 lets-bad [] n i e k h g = refl
 lets-bad (x ∷ w) n i e k h g =
     let q : 251 < getD w i 0 = rw (at-one (x ∷ w) i) g in
-    rw (numbers-some x w (omega arith), all-bad id-ok w i x (omega arith) (omega arith) (id-no _ q))
+    rw (numbers-some x w (omega arith), front-stop id-ok w i x (omega arith) (omega arith) (id-no _ q))
 
 pub lets-good : (w : List ℕ) (n i t : ℕ) → Lets w i t → n ≡ getD w 0 0 → n < length w → i ≤ n → n ≤ i → Good (λ (l : List ℕ). l) never (read-lets w) w (n + 1) t Stop.Nowhere
 unfolding read-lets
@@ -155,10 +136,6 @@ place-fine x = place-ok (place-of x)
 
 abbrev pub places-top : List ℕ → ℕ
 places-top l = above (placed-in (map place-of l))
-
-all-map : (xs : List ℕ) → all place-ok (map place-of xs) ≡ all place-fine xs
-all-map [] = refl
-all-map (x ∷ xs) = ap (λ b. place-fine x && b) (all-map xs)
 
 placed-append : (o : Option ℕ) (xs : List (Option ℕ)) → above (placed-in (o ∷ xs)) ≡ max (above (placed-in (o ∷ []))) (above (placed-in xs))
 unfolding above
@@ -196,14 +173,14 @@ pub places-bad : (w : List ℕ) (n i : ℕ) → n ≤ length w → i < n → (ge
 unfolding read-places
 places-bad w n i k h g b =
     let e : place-fine (getD w i 0) ≡ false = rw (ne-eqb _ 65535 g) (id-no _ b) in
-    rw (numbers-some n w k, all-map (take n w), all-bad place-fine w i n h (omega arith) e)
+    rw (numbers-some n w k, all-map place-ok place-of (take n w), front-stop place-fine w i n h (omega arith) e)
 
 pub places-good : (w : List ℕ) (n i t : ℕ) → Places w i t → n ≤ length w → i ≤ n → n ≤ i → Good placed-in never (read-places n w) w n t Stop.Nowhere
 unfolding read-places
 places-good w n i t p k h g =
     let ei : i ≡ n = omega arith in
     let p′ : Places w n t = subst (λ j. Places w j t) ei p in
-    record { thing = map place-of (take n w); is = rw (numbers-some n w k, all-map (take n w), p′ .pass); within = k; top = p′ .top; met = refl }
+    record { thing = map place-of (take n w); is = rw (numbers-some n w k, all-map place-ok place-of (take n w), p′ .pass); within = k; top = p′ .top; met = refl }
 
 -- AN ARM HOLDS
 pub held-yes : (w k : List ℕ) (n : List ℤ) (s kd : ℕ) (a b : ℤ) (r : Bool) → kd ≡ getD k s 0 → kd ≡ getD w 0 0 → a ≡ getD n s (pos 0) → b ≡ signed (getD w 2 0) → SFits w32 a → SFits w32 b

@@ -4,7 +4,7 @@ use Prim.Native.Nat.{_-_, _≤_}
 use native.Mathlib.Omega.{arith}
 use lib.ListN.{length}
 use borrow.Author.Needs.{needs}
-use Rattle.plan.proofs.Filling.{Filled, filled-starts, filled-turn}
+use Rattle.laws.specs.Loops.{Filled, fill-starts, fill-turn}
 use Rattle.plan.proofs.all_rules.Statement.{statement}
 use Rattle.plan.proofs.all_rules.Tie as tie
 use Rattle.plan.proofs.all_rules.Reads as reads
@@ -18,7 +18,7 @@ abbrev μ-loop : tie.MeasureT-loop
 
 -- src/lib.rt:392:5
 loop-holds : tie.Need-loop-holds Inv-loop μ-loop
-loop-holds c = (filled-starts _ _, (omega arith, refl))
+loop-holds c = (fill-starts _ _, (omega arith, refl))
 
 -- src/lib.rt:393:20
 cast-order : tie.Need-cast-order Inv-loop μ-loop
@@ -38,7 +38,7 @@ loop-less c = search needs
 
 -- src/lib.rt:392:5
 loop-again : tie.Need-loop-again Inv-loop μ-loop
-loop-again c = let g = c .before .loop .inv in (filled-turn (λ k. k) (g .0) (omega (arith, c .loop-test .taken, g .0 .long, g .1 .1)) refl, (omega (arith, c .loop-test .taken), g .1 .1))
+loop-again c = let g = c .before .loop .inv in (fill-turn (λ k. k) (g .0) (omega (arith, c .loop-test .taken, g .0 .long, g .1 .1)) refl, (omega (arith, c .loop-test .taken), g .1 .1))
 
 -- src/lib.rt:387:1
 returns : tie.Need-returns Inv-loop μ-loop

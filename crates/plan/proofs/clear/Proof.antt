@@ -4,7 +4,7 @@ use Prim.Native.Nat.{_-_}
 use native.Mathlib.Omega.{arith}
 use lib.ListN.{length}
 use borrow.Author.Needs.{needs}
-use Rattle.plan.proofs.Filling.{Filled, filled-starts, filled-turn, zeroed}
+use Rattle.laws.specs.Loops.{Filled, fill-starts, fill-turn, all-zero}
 use Rattle.plan.proofs.clear.Statement.{statement}
 use Rattle.plan.proofs.clear.Tie as tie
 use Rattle.plan.proofs.clear.Reads as reads
@@ -18,7 +18,7 @@ abbrev μ-loop : tie.MeasureT-loop
 
 -- src/lib.rt:403:5
 loop-holds : tie.Need-loop-holds Inv-loop μ-loop
-loop-holds c = filled-starts _ _
+loop-holds c = fill-starts _ _
 
 -- src/lib.rt:404:9
 mul-room : tie.Need-mul-room Inv-loop μ-loop
@@ -34,11 +34,11 @@ add-k c = search needs
 
 -- src/lib.rt:403:5
 loop-less : tie.Need-loop-less Inv-loop μ-loop
-loop-less c = let g = filled-turn (λ _. 0) (c .before .loop .inv) (c .loop-test .taken) {v = 0} refl in omega (arith, g .long, c .before .loop .inv .long, c .loop-test .taken)
+loop-less c = let g = fill-turn (λ _. 0) (c .before .loop .inv) (c .loop-test .taken) {v = 0} refl in omega (arith, g .long, c .before .loop .inv .long, c .loop-test .taken)
 
 -- src/lib.rt:403:5
 loop-again : tie.Need-loop-again Inv-loop μ-loop
-loop-again c = filled-turn (λ _. 0) (c .before .loop .inv) (c .loop-test .taken) refl
+loop-again c = fill-turn (λ _. 0) (c .before .loop .inv) (c .loop-test .taken) refl
 
 -- src/lib.rt:399:1
 same-length : tie.Need-same-length Inv-loop μ-loop
@@ -46,7 +46,7 @@ same-length c = c .before .loop .inv .long
 
 -- src/lib.rt:399:1
 returns : tie.Need-returns Inv-loop μ-loop
-returns c = zeroed (c .before .loop .inv) (c .loop-test .left)
+returns c = all-zero (c .before .loop .inv) (c .loop-test .left)
 
 pub clear-spec : {M : Type 1} → statement M
 clear-spec =

@@ -1,7 +1,7 @@
 -- An id whose root is 0 is in no class.
 use borrow.Author.Needs.{needs}
 use borrow.Author.Tests.{eq-eqb, ne-eqb}
-use Rattle.choice.specs.Worth.{same-root}
+use Rattle.sets.specs.View.{same-root}
 use Rattle.choice.proofs.tests.same_class.Statement.{statement}
 use Rattle.choice.proofs.tests.same_class.Tie as tie
 

@@ -25,8 +25,8 @@ loop-holds c = (omega arith, λ b d. sweep-starts _ _ _)
 is-bound-requires : tie.Need-is-bound-requires Inv-loop μ-loop
 is-bound-requires c κs = (c .before .before .before .pre, c .loop-test .taken)
 
-element-write-next : tie.Need-element-write-next Inv-loop μ-loop
-element-write-next c = omega (arith, c .before .before .before .before .before .pre .few, c .before .before .loop-test .taken)
+set-ready-requires : tie.Need-set-ready-requires Inv-loop μ-loop
+set-ready-requires c κs = omega (arith, c .before .before .before .before .before .before .pre .few, c .before .before .before .loop-test .taken)
 
 add-x : tie.Need-add-x Inv-loop μ-loop
 add-x c = search needs
@@ -35,7 +35,7 @@ loop-less : tie.Need-loop-less Inv-loop μ-loop
 loop-less c = search needs
 
 loop-again : tie.Need-loop-again Inv-loop μ-loop
-loop-again c = (omega (arith, c .before .before .loop-test .taken), λ b d. ⊎-elim (λ w. rw (w .1) (sweep-hit (c .before .before .before .loop .inv .1 b d) (bound-is b _ _ _ _ (d .at _ (c .before .before .loop-test .taken)) (sym (c .before .is-bound .ensures) ∙ w .0 .taken)))) (λ w. rw (w .1) (sweep-skip (c .before .before .before .loop .inv .1 b d) (bound-is b _ _ _ _ (d .at _ (c .before .before .loop-test .taken)) (sym (c .before .is-bound .ensures) ∙ w .0 .left)))) (c .if1 .came))
+loop-again c = (omega (arith, c .before .before .loop-test .taken), λ b d. ⊎-elim (λ w. rw (w .3) (sweep-hit (c .before .before .before .loop .inv .1 b d) (bound-is b _ _ _ _ (d .at _ (c .before .before .loop-test .taken)) (sym (c .before .is-bound .ensures) ∙ w .0 .taken)) (w .2 .ensures))) (λ w. rw (w .1) (sweep-skip (c .before .before .before .loop .inv .1 b d) (bound-is b _ _ _ _ (d .at _ (c .before .before .loop-test .taken)) (sym (c .before .is-bound .ensures) ∙ w .0 .left)))) (c .if1 .came))
 
 returns : tie.Need-returns Inv-loop μ-loop
 unfolding emit-bound
@@ -49,7 +49,7 @@ emit-bound-spec =
     μ-loop
     loop-holds
     is-bound-requires
-    element-write-next
+    set-ready-requires
     add-x
     loop-less
     loop-again

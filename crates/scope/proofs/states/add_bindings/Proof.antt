@@ -23,8 +23,8 @@ loop-holds c = (omega arith, λ b d. sweep-starts _ _ _)
 is-ready-requires : tie.Need-is-ready-requires Inv-loop μ-loop
 is-ready-requires c κs = (c .before .before .before .before .before .pre, c .before .before .loop-test .taken)
 
-element-write-next : tie.Need-element-write-next Inv-loop μ-loop
-element-write-next c = omega (arith, c .before .before .before .before .before .before .before .pre .few, c .before .before .before .before .loop-test .taken)
+set-ready-requires : tie.Need-set-ready-requires Inv-loop μ-loop
+set-ready-requires c κs = omega (arith, c .before .before .before .before .before .before .before .before .pre .few, c .before .before .before .before .before .loop-test .taken)
 
 add-x : tie.Need-add-x Inv-loop μ-loop
 add-x c = search needs
@@ -33,7 +33,7 @@ loop-less : tie.Need-loop-less Inv-loop μ-loop
 loop-less c = search needs
 
 loop-again : tie.Need-loop-again Inv-loop μ-loop
-loop-again c = (omega (arith, c .before .before .before .before .loop-test .taken), λ b d. ⊎-elim (λ w. rw (w .1) (sweep-hit (c .before .before .before .before .before .loop .inv .1 b d) (sym (c .before .is-ready .ensures b d) ∙ w .0 .taken))) (λ w. rw (w .1) (sweep-skip (c .before .before .before .before .before .loop .inv .1 b d) (sym (c .before .is-ready .ensures b d) ∙ w .0 .left))) (c .if1 .came))
+loop-again c = (omega (arith, c .before .before .before .before .loop-test .taken), λ b d. ⊎-elim (λ w. rw (w .3) (sweep-hit (c .before .before .before .before .before .loop .inv .1 b d) (sym (c .before .is-ready .ensures b d) ∙ w .0 .taken) (w .2 .ensures))) (λ w. rw (w .1) (sweep-skip (c .before .before .before .before .before .loop .inv .1 b d) (sym (c .before .is-ready .ensures b d) ∙ w .0 .left))) (c .if1 .came))
 
 returns : tie.Need-returns Inv-loop μ-loop
 unfolding worked-out
@@ -47,7 +47,7 @@ add-bindings-spec =
     μ-loop
     loop-holds
     is-ready-requires
-    element-write-next
+    set-ready-requires
     add-x
     loop-less
     loop-again
