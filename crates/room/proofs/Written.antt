@@ -72,6 +72,3 @@ module _ {f : ℕ → ℕ} {n k : ℕ} {l : List ℕ} {at pos : ℕ} {m : List �
 module _ {l w : List ℕ} {r : ℕ} {m : List ℕ} (h : Wrote l 0 w r m) where
   pub whole-fits : length w ≤ length l → (r ≡ length w) × (m ≡ w ++ drop (length w) l)
   whole-fits k = (omega (arith, h .next), h .room (omega arith) ∙ sets-front l w k)
-
-  pub whole-short : length l < length w → r ≡ length l + 1
-  whole-short k = omega (arith, h .next)

@@ -8,7 +8,7 @@ use native.Mathlib.Omega.{arith}
 use lib.Dec.{eqb, ltb}
 use lib.ListN.{length}
 use borrow.Author.Tests.{eqb-true, eqb-false, eq-eqb, ne-eqb, ltb-true, ltb-false}
-use Rattle.definition.specs.Lists.{all, any, if_then_else_, each}
+use Rattle.definition.specs.Lists.{all, any, each}
 use Rattle.laws.specs.Tests.{split, both, and, one-of, or-left, or-right}
 use Rattle.laws.specs.Members.{all-at, all-from, any-at, any-from}
 use Rattle.definition.specs.Book.{Book, site}
@@ -47,18 +47,6 @@ module _ (b : Book) where
   unfolding is-bound bound-below
   bound-free g γ s e h =
       or-right (any (eqb s) γ) (and e (all-from (bound-below s b γ) (site b s .sources) (λ r m. bound-mono (suc r) s γ γ r (g .low s r m) (λ x k. k) (h r m))))
-
-  let-sub : (s : ℕ) (γ : List ℕ) → Sub γ (let-binds b s γ)
-  unfolding let-binds
-  let-sub s γ x m = go (eqb (site b s .kind) 7)
-    where
-      go : (t : Bool) → List·Memᴰ x (if_then_else_ t γ (s ∷ γ))
-      go true = m
-      go false = List·Memᴰ·tail m
-
-  pub grown-sub : (γ l : List ℕ) → Sub γ (grown b γ l)
-  grown-sub γ [] x m = m
-  grown-sub γ (s ∷ l) x m = grown-sub (let-binds b s γ) l x (let-sub s γ x m)
 
   grown-snoc : (γ l : List ℕ) (s : ℕ) → grown b γ (l ++ (s ∷ [])) ≡ let-binds b s (grown b γ l)
   grown-snoc γ [] s = refl
