@@ -1,10 +1,10 @@
--- A few stores side by side are a run, and the words of a record are the fields that were read.
-use Prim.Native.Nat.{ℕ, suc, _+_, _*_}
+-- The words of a record are the fields that were read.
+use Prim.Native.Nat.{ℕ, _+_, _*_}
 use mathlib.Core.Path.{_≡_, refl, sym, ap, _∙_}
 use mathlib.Core.Bool.{Bool, true, false}
 use mathlib.Core.List.{List, [], _∷_, map}
 use native.Mathlib.Omega.{arith}
-use lib.ListN.{length, set, length-append}
+use lib.ListN.{length, length-append}
 use lib.Seq.{sets}
 use borrow.Author.Tests.{eq-eqb, ne-eqb}
 use Rattle.definition.specs.Lists.{_is_, if_then_else_, upto, flat}
@@ -12,19 +12,6 @@ use Rattle.definition.specs.Book.{slots}
 use Rattle.definition.specs.Bytes.{byte, le16, le32, site-fields, constraint-fields, id-field, rule-fields, site-record, rule-record, site-table, rule-table}
 use Rattle.laws.specs.Turns.{flat-length}
 use Rattle.laws.specs.Stores.{three-runs}
-
-pub run4 : (l : List ℕ) (i a b c d : ℕ) → set (set (set (set l i a) (i + 1) b) (i + 2) c) (i + 3) d ≡ sets l i (a ∷ b ∷ c ∷ d ∷ [])
-run4 l i a b c d =
-    let e1 : i + 1 ≡ suc i = omega arith in
-    let e2 : i + 2 ≡ suc (suc i) = omega arith in
-    let e3 : i + 3 ≡ suc (suc (suc i)) = omega arith in
-    rw (e1, e2, e3)
-
-pub run6 : (l : List ℕ) (i a b c d e f : ℕ) → set (set (set (set (set (set l i a) (i + 1) b) (i + 2) c) (i + 3) d) (i + 4) e) (i + 5) f ≡ sets l i (a ∷ b ∷ c ∷ d ∷ e ∷ f ∷ [])
-run6 l i a b c d e f =
-    let e4 : i + 4 ≡ suc (suc (suc (suc i))) = omega arith in
-    let e5 : i + 5 ≡ suc (suc (suc (suc (suc i)))) = omega arith in
-    rw (e4, e5, run4 l i a b c d)
 
 -- SITES
 pub site-bound : (b : List ℕ) (o u v w x y z : ℕ) → u ≡ 7 → u ≡ byte b o → v ≡ byte b (o + 1) → w ≡ le16 b (o + 2) → x ≡ byte b (o + 4) → y ≡ byte b (o + 5) → z ≡ le32 b (o + 6)

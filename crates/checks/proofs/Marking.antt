@@ -1,7 +1,7 @@
 -- Laws of marks: none, one more, a run of them, and the step from a site to those below it.
 use Prim.Native.Nat.{ℕ, zero, suc, _+_, _≤_, _<_}
 use mathlib.Core.Path.{_≡_, refl, sym, ap, _∙_, subst}
-use mathlib.Core.Bool.{Bool, true, false, _&&_}
+use mathlib.Core.Bool.{Bool, true, _&&_}
 use mathlib.Core.List.{List, [], _∷_, _++_, map}
 use native.Mathlib.Omega.{arith}
 use native.Mathlib.Decide.{ℕ-discrete}
@@ -9,15 +9,11 @@ use lib.ListN.{length, getD, set, replicate, length-set}
 use lib.Seq.{getD-set-same, getD-set-other}
 use Rattle.definition.specs.Lists.{_is_, _implies_, upto, all}
 use Rattle.definition.specs.Tables.{word-at}
-use Rattle.laws.specs.Tests.{same-test, and, both}
+use Rattle.laws.specs.Tests.{same-test, and, both, implies-true}
 use Rattle.laws.specs.Answers.{and-true, and-assoc}
 use Rattle.laws.specs.Ranges.{upto-more}
 use Rattle.laws.specs.Turns.{all-append, map-more, upto-at, upto-all}
 use Rattle.checks.specs.Marks.{good-if-marked, pending, Marked}
-
-implies-true : (x : Bool) → (x implies true) ≡ true
-implies-true true = refl
-implies-true false = refl
 
 pub pending-none : (good : ℕ → Bool) (n q : ℕ) → pending good (replicate n 0) q ≡ true
 unfolding pending good-if-marked

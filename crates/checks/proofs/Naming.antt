@@ -12,13 +12,9 @@ use Rattle.definition.specs.Accept.{smaller-than, constraint-ok, pair-ok, rule-
 use Rattle.laws.specs.Tests.{both, every-at}
 use Rattle.laws.specs.Answers.{and-true, and-assoc}
 use Rattle.laws.specs.Members.{all-same}
-use Rattle.laws.specs.Turns.{upto-at, all-append, all-and, all-map, all-flat}
+use Rattle.laws.specs.Turns.{all-append, all-and, all-map, all-flat, mapped-at}
 use Rattle.checks.specs.Marks.{stepped}
 use Rattle.checks.proofs.RuleTests.{rule-is}
-
--- a test that all of a mapped list pass, at one of them
-mapped-at : {B : Type 0} (p : B → Bool) (f : ℕ → B) (n k : ℕ) → all p (map f (upto n)) ≡ true → k < n → p (f k) ≡ true
-mapped-at p f n k e h = upto-at (λ j. p (f j)) n k (sym (all-map p f (upto n)) ∙ e) h
 
 regroup : (a b c d : Bool) → ((a && b) && c) && d ≡ a && (b && (c && d))
 regroup true true c d = refl

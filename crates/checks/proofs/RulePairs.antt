@@ -5,15 +5,13 @@ use mathlib.Core.Logic.{_⊎_, inl, inr}
 use mathlib.Core.Bool.{Bool, true, false, _&&_}
 use mathlib.Core.List.{List, map}
 use lib.IntN.{ℤ}
-use lib.Dec.{eqb}
-use borrow.Author.Tests.{eqb-true, eq-eqb}
 use Rattle.definition.specs.Lists.{_is_, _implies_, same-number, all, flat, upto}
 use Rattle.definition.specs.Book.{Constraint}
 use Rattle.definition.specs.Tables.{rule-words, rule-word, constraint-start, constraint-at, rule-at, book-of}
 use Rattle.definition.specs.Accept.{fields-agree, constraints-of, agrees-with, fields-ok, apart, apart-ok}
 use Rattle.laws.specs.Turns.{all-map, all-flat, all-swap, half-enough}
 use Rattle.laws.specs.Orders.{same-number-equal, same-number-self}
-use Rattle.laws.specs.Tests.{split, both, and, implied}
+use Rattle.laws.specs.Tests.{split, both, and, implied, is-sym}
 use Rattle.laws.specs.Members.{all-at, all-from, all-same}
 use Rattle.checks.specs.Words.{rules-agree, agrees-so-far}
 use Rattle.tables.specs.Held.{Words}
@@ -51,9 +49,6 @@ module _ (a b c d : Bool) where
   pub none-differs : a ≡ true → b ≡ true → c ≡ true → (a && b && c implies d) ≡ d
   none-differs e f g = rw (e, f, g)
 
-same-back : (a b : ℕ) → eqb a b ≡ true → eqb b a ≡ true
-same-back a b e = eq-eqb b a (sym (eqb-true a b e))
-
 -- to agree is mutual
 agree-back : (c d : Constraint) → fields-agree c d ≡ true → fields-agree d c ≡ true
 unfolding fields-agree
@@ -68,8 +63,8 @@ agree-back c d e = go (split (same d c))
         let f = both ((d .site is c .site) && (d .pattern .kind is c .pattern .kind)) (same-number (d .pattern .number) (c .pattern .number)) p in
         let g = both (d .site is c .site) (d .pattern .kind is c .pattern .kind) (f .0) in
         let q : same-number (c .pattern .number) (d .pattern .number) ≡ true = ap (λ (z : ℤ). same-number (c .pattern .number) z) (same-number-equal (d .pattern .number) (c .pattern .number) (f .1)) ∙ same-number-self (c .pattern .number) in
-        let h : (c .pattern .fields is d .pattern .fields) ≡ true = implied (same c d) (c .pattern .fields is d .pattern .fields) (and (and (same-back (d .site) (c .site) (g .0)) (same-back (d .pattern .kind) (c .pattern .kind) (g .1))) q) e in
-        rw p (same-back (c .pattern .fields) (d .pattern .fields) h)
+        let h : (c .pattern .fields is d .pattern .fields) ≡ true = implied (same c d) (c .pattern .fields is d .pattern .fields) (and (and (is-sym (c .site) (d .site) ∙ g .0) (is-sym (c .pattern .kind) (d .pattern .kind) ∙ g .1)) q) e in
+        rw p (is-sym (d .pattern .fields) (c .pattern .fields) ∙ h)
 
 rules-back : (n : ℕ) (u : List ℕ) (i j : ℕ) → rules-agree n u i j ≡ true → rules-agree n u j i ≡ true
 unfolding rules-agree agrees-with

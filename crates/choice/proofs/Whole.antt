@@ -2,7 +2,7 @@
 use mathlib.Core.Path.{_≡_, refl, sym, ap, subst, _∙_}
 use mathlib.Core.Logic.{_⊎_, inl, inr}
 use mathlib.Core.Bool.{Bool, true, false, _&&_, not}
-use mathlib.Core.List.{List, [], _∷_, map, List·Memᴰ, List·Memᴰ·head, List·Memᴰ·tail}
+use mathlib.Core.List.{List, map, List·Memᴰ}
 use Prim.Native.Nat.{ℕ, _*_, _≤_, _<_, max}
 use native.Mathlib.Decide.{decLt}
 use native.Mathlib.Omega.{arith}
@@ -15,7 +15,7 @@ use Rattle.definition.specs.Lists.{if_then_else_, upto, filter}
 use Rattle.definition.specs.Scope.{matched, Scope}
 use Rattle.definition.specs.Tables.{rule-word, rule-at, book-of}
 use Rattle.laws.specs.Ascending.{asc, mem-index, asc-filter, Within, Distinct, filter-distinct, asc-length}
-use Rattle.laws.specs.Greatest.{greatest, greatest-over, greatest-under}
+use Rattle.laws.specs.Greatest.{greatest, greatest-over, greatest-under, greatest-same}
 use Rattle.laws.specs.Members.{filter-in, from-bounds, mem-map-of}
 use Rattle.laws.specs.Tests.{split}
 use Rattle.theorems.specs.Choices.{Known, known-listed, tests-known}
@@ -28,11 +28,6 @@ use Rattle.choice.specs.Worth.{open-at, state-at, count-of, worth, worth
 use Rattle.choice.specs.declared.Best.{Best}
 use Rattle.choice.proofs.Keys.{book-worth, choice-worth}
 use Rattle.choice.proofs.Tops.{top-has, tried}
-
--- the greatest of two weights that agree on the members
-greatest-same : {A : Type 0} (f g : A → ℕ) (xs : List A) → ((x : A) → List·Memᴰ x xs → f x ≡ g x) → greatest f xs ≡ greatest g xs
-greatest-same f g [] h = refl
-greatest-same f g (x ∷ xs) h = rw (h x (List·Memᴰ·head refl), greatest-same f g xs (λ y m. h y (List·Memᴰ·tail m)))
 
 -- COUNTS: over W as the ascending list of a part, and over the part
 count-part : (b : Book) (rules : List ℕ) → Words rules → (R : ℕ) (part : List ℕ) → Within R part → Distinct part → ((i : ℕ) → List·Memᴰ i part → rule b i ≡ rule-at slots rules i) → (t : Test)

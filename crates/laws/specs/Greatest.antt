@@ -25,6 +25,11 @@ module _ {A : Type 0} where
   greatest-under w b [] h = omega arith
   greatest-under w b (x ∷ xs) h = let z = h x (List·Memᴰ·head refl) in let y = greatest-under w b xs (λ u m. h u (List·Memᴰ·tail m)) in omega arith
 
+  -- the greatest of two weights that agree on the members
+  pub greatest-same : (f g : A → ℕ) (xs : List A) → ((x : A) → List·Memᴰ x xs → f x ≡ g x) → greatest f xs ≡ greatest g xs
+  greatest-same f g [] h = refl
+  greatest-same f g (x ∷ xs) h = rw (h x (List·Memᴰ·head refl), greatest-same f g xs (λ y m. h y (List·Memᴰ·tail m)))
+
   -- where it is not 0, a member has it
   pub greatest-of : (w : A → ℕ) (xs : List A) → 0 < greatest w xs → (x : A) × List·Memᴰ x xs × (w x ≡ greatest w xs)
   greatest-of w [] h = absurd (omega arith)

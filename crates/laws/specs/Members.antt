@@ -2,13 +2,14 @@
 use mathlib.Core.Path.{_≡_, refl, sym, _∙_, ap, subst}
 use mathlib.Core.Logic.{_⊎_, inl, inr}
 use mathlib.Core.Bool.{Bool, true, false, false≢true, true≢false}
-use mathlib.Core.List.{List, [], _∷_, _++_, map, List·Memᴰ, List·Memᴰ·head, List·Memᴰ·tail, List·Memᴰ·not-nil, List·Memᴰ·cases-cons, List·Memᴰ·append-cases, Memᴰ·append-left, Memᴰ·append-right}
+use mathlib.Core.Option.{some}
+use mathlib.Core.List.{List, [], _∷_, _++_, map, List·Memᴰ, List·Memᴰ·head, List·Memᴰ·tail, List·Memᴰ·not-nil, List·Memᴰ·cases-cons, List·Memᴰ·append-cases, List·Memᴰ·eq-of-singleton, Memᴰ·append-left, Memᴰ·append-right}
 use Prim.Native.Nat.{ℕ, zero, suc, _+_, _≤_, _<_}
 use native.Mathlib.Omega.{arith}
 use lib.Dec.{eqb}
 use lib.ListN.{length, getD}
 use borrow.Author.Tests.{eqb-true, eqb-false}
-use Rattle.definition.specs.Lists.{from, keep, filter, all, any, flat}
+use Rattle.definition.specs.Lists.{_is_, from, keep, filter, all, any, first, flat, heads}
 use Rattle.laws.specs.Tests.{split, both, and, not-both, one-of, or-left, or-right}
 
 -- ALL, ANY, FILTER
@@ -77,6 +78,16 @@ module _ {A : Type 0} where
   pub some-member : (xs : List A) → 0 < length xs → (x : A) × List·Memᴰ x xs
   some-member [] h = absurd (omega arith)
   some-member (x ∷ xs) h = (x, List·Memᴰ·head refl)
+
+-- the first that passes
+pub first-of : {A : Type 0} (q : A → Bool) (x : A) (xs : List A) → List·Memᴰ x xs → q x ≡ true → (y : A) × (first q xs ≡ some y) × (q y ≡ true)
+first-of q x [] m e = absurd (List·Memᴰ·not-nil m)
+first-of {A} q x (z ∷ xs) m e = go (split (q z)) (List·Memᴰ·cases-cons m) (first-of q x xs)
+  where
+    go : (q z ≡ true) ⊎ (q z ≡ false) → (x ≡ z) ⊎ List·Memᴰ x xs → (List·Memᴰ x xs → q x ≡ true → (y : A) × (first q xs ≡ some y) × (q y ≡ true)) → (y : A) × (first q (z ∷ xs) ≡ some y) × (q y ≡ true)
+    go (inl f) k rec = (z, rw f refl, f)
+    go (inr f) (inl k) rec = absurd (true≢false (sym e ∙ ap q k ∙ f))
+    go (inr f) (inr k) rec = let r = rec k e in (r .0, rw f (r .1), r .2)
 
 -- where every member passes, all are kept
 pub filter-keeps : {A : Type 0} (p : A → Bool) (xs : List A) → ((x : A) → List·Memᴰ x xs → p x ≡ true) → filter p xs ≡ xs
@@ -201,3 +212,18 @@ pub getD-mem : {A : Type 0} (l : List A) (i : ℕ) (d : A) → i < length l → 
 getD-mem [] i d h = absurd (omega arith)
 getD-mem (x ∷ l) zero d h = List·Memᴰ·head refl
 getD-mem (x ∷ l) (suc i) d h = List·Memᴰ·tail (getD-mem l i d (omega arith))
+
+-- THE HEAD
+pub heads-one : (s : ℕ) (l : List ℕ) → length l ≡ 1 → heads s l ≡ getD l 0 0 is s
+heads-one s [] h = absurd (omega arith)
+heads-one s (r ∷ l) h = refl
+
+pub heads-in : (s : ℕ) (rs : List ℕ) → heads s rs ≡ true → List·Memᴰ s rs
+heads-in s [] e = absurd (false≢true e)
+heads-in s (r ∷ rs) e = List·Memᴰ·head (sym (eqb-true r s e))
+
+-- a list of one
+pub lone-list : (xs : List ℕ) → length xs ≡ 1 → (y z : ℕ) → List·Memᴰ y xs → List·Memᴰ z xs → y ≡ z
+lone-list [] e y z m n = absurd (omega arith)
+lone-list (x ∷ []) e y z m n = List·Memᴰ·eq-of-singleton m ∙ sym (List·Memᴰ·eq-of-singleton n)
+lone-list (x ∷ w ∷ xs) e y z m n = absurd (omega arith)

@@ -64,3 +64,17 @@ words-more l i f k =
     ap (λ (n : ℕ). sets (sets l i (map f (upto k))) (i + n) (f k ∷ [])) (sym (length-map-upto f k))
     ∙ sets-append l i (map f (upto k)) (f k ∷ [])
     ∙ ap (sets l i) (sym (map-more f k))
+
+-- stores side by side are a run
+pub run4 : (l : List ℕ) (i a b c d : ℕ) → set (set (set (set l i a) (i + 1) b) (i + 2) c) (i + 3) d ≡ sets l i (a ∷ b ∷ c ∷ d ∷ [])
+run4 l i a b c d =
+    let e1 : i + 1 ≡ suc i = omega arith in
+    let e2 : i + 2 ≡ suc (suc i) = omega arith in
+    let e3 : i + 3 ≡ suc (suc (suc i)) = omega arith in
+    rw (e1, e2, e3)
+
+pub run6 : (l : List ℕ) (i a b c d e f : ℕ) → set (set (set (set (set (set l i a) (i + 1) b) (i + 2) c) (i + 3) d) (i + 4) e) (i + 5) f ≡ sets l i (a ∷ b ∷ c ∷ d ∷ e ∷ f ∷ [])
+run6 l i a b c d e f =
+    let e4 : i + 4 ≡ suc (suc (suc (suc i))) = omega arith in
+    let e5 : i + 5 ≡ suc (suc (suc (suc (suc i)))) = omega arith in
+    rw (e4, e5, run4 l i a b c d)

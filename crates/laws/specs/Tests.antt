@@ -3,9 +3,12 @@ use mathlib.Core.Path.{_≡_, refl, sym, _∙_}
 use mathlib.Core.Logic.{_⊎_, inl, inr}
 use mathlib.Core.Bool.{Bool, true, false, _&&_, _||_, false≢true, true≢false}
 use mathlib.Core.List.{List, [], _∷_}
-use Prim.Native.Nat.{ℕ, zero, suc}
+use Prim.Native.Nat.{ℕ, zero, suc, _≤_, _<_}
+use native.Mathlib.Omega.{arith}
+use lib.Dec.{leb}
 use lib.ListN.{getD}
-use Rattle.definition.specs.Lists.{_implies_, every}
+use borrow.Author.Tests.{eqb-true, eqb-false, eq-eqb, ne-eqb, leb-true, le-leb}
+use Rattle.definition.specs.Lists.{_is_, _implies_, every}
 
 pub split : (x : Bool) → (x ≡ true) ⊎ (x ≡ false)
 split true = inl refl
@@ -19,6 +22,27 @@ pub same-test : (x y : Bool) → (x ≡ true → y ≡ true) → (y ≡ true →
 same-test true y f g = sym (f refl)
 same-test false true f g = g refl
 same-test false false f g = refl
+
+-- EQUAL NUMBERS, either way round
+pub is-sym : (m n : ℕ) → m is n ≡ n is m
+is-sym m n = go (split (n is m))
+  where
+    go : (n is m ≡ true) ⊎ (n is m ≡ false) → m is n ≡ n is m
+    go (inl e) = eq-eqb m n (sym (eqb-true n m e)) ∙ sym e
+    go (inr e) = ne-eqb m n (λ q. eqb-false n m e (sym q)) ∙ sym e
+
+-- two orders that agree
+pub same-order : (x y u v : ℕ) → (x ≤ y → u ≤ v) → (u ≤ v → x ≤ y) → leb x y ≡ leb u v
+same-order x y u v f g = go (split (leb x y)) (split (leb u v))
+  where
+    go : (leb x y ≡ true) ⊎ (leb x y ≡ false) → (leb u v ≡ true) ⊎ (leb u v ≡ false) → leb x y ≡ leb u v
+    go (inl p) q = p ∙ sym (le-leb u v (f (leb-true x y p)))
+    go (inr p) (inl q) = le-leb x y (g (leb-true u v q)) ∙ sym q
+    go (inr p) (inr q) = p ∙ sym q
+
+pub positive : (n : ℕ) → (n ≡ 0 → ⊥) → 0 < n
+positive zero m = absurd (m refl)
+positive (suc n) m = omega arith
 
 -- AND
 pub both : (x y : Bool) → x && y ≡ true → (x ≡ true) × (y ≡ true)
@@ -52,6 +76,10 @@ neither false y e = (refl, e)
 pub implied : (x y : Bool) → x ≡ true → x implies y ≡ true → y ≡ true
 implied true y p e = e
 implied false y p e = absurd (false≢true p)
+
+pub implies-true : (x : Bool) → (x implies true) ≡ true
+implies-true true = refl
+implies-true false = refl
 
 -- EVERY, with `every` shut
 pub every-at : (xs : List Bool) (k : ℕ) → every xs ≡ true → getD xs k true ≡ true

@@ -1,5 +1,5 @@
 -- Laws of totals: each member of a list counts its weight. With the weight 1 the total is the length; with the weight that is 1 at i alone it says how often i stands in the list.
-use mathlib.Core.Path.{_≡_, refl, ap}
+use mathlib.Core.Path.{_≡_, refl, sym, _∙_, ap}
 use mathlib.Core.Logic.{_⊎_, inl, inr}
 use mathlib.Core.Bool.{Bool, true, false, _||_}
 use mathlib.Core.List.{List, [], _∷_, _++_, List·Memᴰ, List·Memᴰ·head, List·Memᴰ·tail}
@@ -46,6 +46,10 @@ module _ (v : ℕ → ℕ) where
 pub total-length : (w : List ℕ) → total (λ j. 1) w ≡ length w
 total-length [] = refl
 total-length (x ∷ xs) = let h = total-length xs in omega arith
+
+-- as long where every total is the same
+pub total-same : (l w : List ℕ) → ((v : ℕ → ℕ) → total v l ≡ total v w) → length l ≡ length w
+total-same l w h = sym (total-length l) ∙ h (λ j. 1) ∙ total-length w
 
 -- HOW OFTEN i STANDS IN A LIST
 unfoldable pub only : ℕ → ℕ → ℕ

@@ -115,6 +115,10 @@ module _ {B : Type 0} where
   pub mapped-stop : (p : B → Bool) (f : ℕ → B) (n k : ℕ) → k < n → p (f k) ≡ false → all p (map f (upto n)) ≡ false
   mapped-stop p f n k h e = all-map p f (upto n) ∙ upto-stop (λ j. p (f j)) n k h e
 
+  -- a test that all of a mapped list pass, at one of them
+  pub mapped-at : (p : B → Bool) (f : ℕ → B) (n k : ℕ) → all p (map f (upto n)) ≡ true → k < n → p (f k) ≡ true
+  mapped-at p f n k e h = upto-at (λ j. p (f j)) n k (sym (all-map p f (upto n)) ∙ e) h
+
 -- A LOOP over a mapped list that looks for one that passes
 module _ {A : Type 0} where
   pub any-append : (p : A → Bool) (l m : List A) → any p (l ++ m) ≡ any p l || any p m

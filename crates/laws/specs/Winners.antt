@@ -5,7 +5,9 @@ use mathlib.Core.Bool.{Bool, true, false}
 use mathlib.Core.List.{List, [], _∷_, List·Memᴰ, List·Memᴰ·head, List·Memᴰ·tail, List·Memᴰ·not-nil, List·Memᴰ·cases-cons}
 use Prim.Native.Nat.{ℕ, _<_, compare, Ordering, Ordering·lt, Ordering·eq, Ordering·gt}
 use native.Mathlib.Omega.{arith}
-use Rattle.definition.specs.Lists.{if_then_else_, champion}
+use lib.Dec.{ltb}
+use borrow.Author.Tests.{lt-ltb, le-ltb}
+use Rattle.definition.specs.Lists.{if_then_else_, _and-then_, is-less, champion}
 use Rattle.laws.specs.Orders.{lt-is, lt-of, eq-of, eq-is, gt-of}
 use Rattle.laws.specs.Tests.{split}
 
@@ -24,6 +26,23 @@ same-compare x y u v f g h = go (compare x y) refl
     go Ordering·lt e = sym (lt-is u v (f (lt-of x y e)))
     go Ordering·eq e = sym (eq-is u v (g (eq-of x y e)))
     go Ordering·gt e = sym (gt-is u v (h (gt-of x y e)))
+
+-- the first key that differs decides
+pub first-key : (m n : ℕ) (o : Ordering) → (m ≡ n → ⊥) → ltb m n ≡ is-less (compare m n and-then o)
+first-key m n o h = go (compare m n) refl
+  where
+    go : (c : Ordering) → compare m n ≡ c → ltb m n ≡ is-less (c and-then o)
+    go Ordering·lt e = lt-ltb m n (lt-of m n e)
+    go Ordering·eq e = absurd (h (eq-of m n e))
+    go Ordering·gt e = le-ltb m n (let z = gt-of m n e in omega arith)
+
+pub last-key : (m n : ℕ) → ltb m n ≡ is-less (compare m n)
+last-key m n = go (compare m n) refl
+  where
+    go : (c : Ordering) → compare m n ≡ c → ltb m n ≡ is-less c
+    go Ordering·lt e = lt-ltb m n (lt-of m n e)
+    go Ordering·eq e = le-ltb m n (let z = eq-of m n e in omega arith)
+    go Ordering·gt e = le-ltb m n (let z = gt-of m n e in omega arith)
 
 -- what is in the list, beats every other there and is beaten by none, is the champion
 module _ {A : Type 0} (better : A → A → Bool) (t : A) where

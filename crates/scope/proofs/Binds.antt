@@ -1,14 +1,14 @@
 -- `binds`, by the tests that the code makes one after another, and the places of a pattern.
-use mathlib.Core.Path.{_≡_, refl, sym, _∙_}
+use mathlib.Core.Path.{_≡_, sym, _∙_}
 use mathlib.Core.Bool.{Bool, true, false, and-true, and-false}
-use mathlib.Core.List.{List, [], _∷_, map, map-map}
+use mathlib.Core.List.{List, map, map-map}
 use mathlib.Core.Logic.{_⊎_, inl, inr}
 use mathlib.Core.Option.{none, some}
 use Prim.Native.Nat.{ℕ, _+_, _-_, _≤_, _<_}
 use native.Mathlib.Omega.{arith}
 use lib.ListN.{length, getD}
 use borrow.Author.Tests.{eq-eqb, ne-eqb, eqb-true}
-use Rattle.definition.specs.Lists.{_is_, _below_, every, same-number, heads, from, upto, first}
+use Rattle.definition.specs.Lists.{_below_, every, same-number, from, upto, first}
 use Rattle.definition.specs.Book.{Book, Pattern, Site, site}
 use Rattle.definition.specs.Plan.{stands-at, place-at, places}
 use Rattle.definition.specs.Scope.{binds, bound-by}
@@ -16,10 +16,7 @@ use Rattle.definition.specs.Tables.{signed}
 use Rattle.definition.specs.Tree.{word, place-word}
 use Rattle.laws.specs.Tests.{split, every-at}
 use Rattle.laws.specs.Asks.{in-range, first-skip, first-hit, first-end}
-
-heads-one : (s : ℕ) (l : List ℕ) → length l ≡ 1 → heads s l ≡ getD l 0 0 is s
-heads-one s [] h = absurd (omega arith)
-heads-one s (r ∷ l) h = refl
+use Rattle.laws.specs.Members.{heads-one}
 
 module _ (s : ℕ) (p : Pattern) (x : Site) where
   pub bound-kind : binds s p x ≡ true → x .kind ≡ 7

@@ -10,20 +10,13 @@ use borrow.Author.Tests.{eq-eqb, ne-eqb, eqb-true, eqb-false}
 use Rattle.definition.specs.Lists.{_is_, _below_, if_then_else_}
 use Rattle.definition.specs.Book.{Pair, label, linked}
 use Rattle.definition.specs.Sets.{Class, unmerged, in-set, Sets, same-class, in-same-set, entered, enter, moved, move, join-classes, join, merge}
-use Rattle.laws.specs.Tests.{split}
+use Rattle.laws.specs.Tests.{split, is-sym}
 use Rattle.sets.specs.View.{class-of, read, Made}
 use Rattle.scope.specs.Classes.{label-in}
 
 -- LABELS RENAMED: p becomes q
 abbrev renamed : ℕ → ℕ → ℕ → ℕ
 renamed p q w = if w is p then q else w
-
-is-sym : (m n : ℕ) → m is n ≡ n is m
-is-sym m n = go (split (n is m))
-  where
-    go : (n is m ≡ true) ⊎ (n is m ≡ false) → m is n ≡ n is m
-    go (inl e) = eq-eqb m n (sym (eqb-true n m e)) ∙ sym e
-    go (inr e) = ne-eqb m n (λ q. eqb-false n m e (sym q)) ∙ sym e
 
 -- two labels are one after p is renamed q: they were, or one was p and the other q
 one-label : (p q m n : ℕ) → renamed p q m is renamed p q n ≡ m is n || ((m is p && n is q) || (m is q && n is p))

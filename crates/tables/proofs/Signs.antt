@@ -3,7 +3,7 @@ use mathlib.Core.Path.{_≡_, sym, subst, _∙_}
 use mathlib.Core.Logic.{_⊎_, inl, inr}
 use mathlib.Core.Bool.{true, false}
 use mathlib.Core.List.{List}
-use Prim.Native.Nat.{ℕ, _-_, _^_, _≤_, _<_, compare}
+use Prim.Native.Nat.{ℕ, _-_, _^_, _<_, compare}
 use native.Mathlib.Omega.{arith}
 use lib.Dec.{eqb, ltb, leb}
 use lib.IntN.{pos}
@@ -14,17 +14,9 @@ use Rattle.definition.specs.Lists.{compare-signed, same-number}
 use Rattle.definition.specs.Tables.{signed, rule-at}
 use Rattle.laws.specs.Orders.{lt-is, same-number-equal, same-number-self}
 use Rattle.laws.specs.Signed.{leℤ-refl}
-use Rattle.laws.specs.Tests.{split}
+use Rattle.laws.specs.Tests.{split, same-order}
 use Rattle.laws.specs.Winners.{gt-is, same-compare}
 use Rattle.tables.specs.Held.{Words, biased, rank-of}
-
-same-order : (x y u v : ℕ) → (x ≤ y → u ≤ v) → (u ≤ v → x ≤ y) → leb x y ≡ leb u v
-same-order x y u v f g = go (split (leb x y)) (split (leb u v))
-  where
-    go : (leb x y ≡ true) ⊎ (leb x y ≡ false) → (leb u v ≡ true) ⊎ (leb u v ≡ false) → leb x y ≡ leb u v
-    go (inl p) q = p ∙ sym (le-leb u v (f (leb-true x y p)))
-    go (inr p) (inl q) = le-leb x y (g (leb-true u v q)) ∙ sym q
-    go (inr p) (inr q) = p ∙ sym q
 
 pub signed-order : (a b : ℕ) → a < 2 ^ 32 → b < 2 ^ 32 → leZ (signed a) (signed b) ≡ leb (biased a) (biased b)
 signed-order a b ha hb = go (split (ltb a 0x8000_0000)) (split (ltb b 0x8000_0000))

@@ -10,7 +10,7 @@ use lib.ListN.{length, getD, List·getD-eq-default}
 use borrow.Author.Tests.{eqb-true, eqb-false, eq-eqb, ltb-true, ltb-false, leb-true, not-true}
 use Rattle.definition.specs.Lists.{every, any, flat, same-number}
 use Rattle.laws.specs.Tests.{split, every-at, both, and, clash, implied}
-use Rattle.laws.specs.Members.{all-at, any-from, mem-length, mem-from, mem-flat, mem-map-of, mem-flat-of, getD-mem}
+use Rattle.laws.specs.Members.{all-at, any-from, mem-length, mem-from, mem-flat, mem-map-of, mem-flat-of, getD-mem, lone-list}
 use Rattle.definition.specs.Book.{Book, Site, Rule, Constraint, Pair, site, no-site, rule, no-rule, pattern-on, pattern-in, constrains, is-on}
 use Rattle.definition.specs.Accept.{shape-ok, twins, site-ok, sites-ok, pattern-ok, once, rule-ok, rules-ok, fields-agree, fields-ok, apart, sound-below, named, sound, constraints-of, ends, agrees-with, apart-ok, constraint-ok, no-twin, pair-apart, pair-ok, site-of, smaller-than, sound-from, sound-ok}
 use Rattle.laws.specs.Orders.{same-number-self}
@@ -47,11 +47,6 @@ inside-book b x e = go (split (ltb x (length (b .sites))))
         absurd (omega arith)
 
 -- LISTS
-lone-list : (xs : List ℕ) → length xs ≡ 1 → (y z : ℕ) → List·Memᴰ y xs → List·Memᴰ z xs → y ≡ z
-lone-list [] e y z m n = absurd (omega arith)
-lone-list (x ∷ []) e y z m n = List·Memᴰ·eq-of-singleton m ∙ sym (List·Memᴰ·eq-of-singleton n)
-lone-list (x ∷ w ∷ xs) e y z m n = absurd (omega arith)
-
 once-unique : (cs : List Constraint) → once cs ≡ true → (c : Constraint) → List·Memᴰ c cs → pattern-in cs (c .site) ≡ c .pattern
 unfolding is-on
 once-unique [] e c m = absurd (List·Memᴰ·not-nil m)

@@ -1,16 +1,16 @@
 -- The states of a block: availability, and what an arm does to them.
 use mathlib.Core.Path.{_≡_, refl, sym, _∙_, ap}
 use mathlib.Core.Logic.{_⊎_, inl, inr}
-use mathlib.Core.Bool.{true, false, not, false≢true}
-use mathlib.Core.List.{List, [], _∷_, List·Memᴰ, List·Memᴰ·head}
+use mathlib.Core.Bool.{true, false, not}
+use mathlib.Core.List.{List, List·Memᴰ}
 use Prim.Native.Nat.{ℕ, _+_, _-_, _≤_, _<_}
 use native.Mathlib.Omega.{arith}
 use lib.Dec.{eqb}
 use lib.ListN.{length, set, length-set}
 use borrow.Author.Tests.{eqb-true, eqb-false, ltb-true, not-true, eq-eqb, ne-eqb, lt-ltb}
-use Rattle.definition.specs.Lists.{every, heads}
+use Rattle.definition.specs.Lists.{every}
 use Rattle.laws.specs.Tests.{split, every-at, and}
-use Rattle.laws.specs.Members.{all-at, all-from}
+use Rattle.laws.specs.Members.{all-at, all-from, heads-in}
 use Rattle.definition.specs.Book.{most, Book, Pattern, site}
 use Rattle.definition.specs.Scope.{state, sweep, is-there, ready, worked-out, binds, bound-by, emit-bound}
 use Rattle.theorems.specs.States.{Same, Down, at, set-cases, sweep-length, sweep-past, sweep-ahead, sweep-cases, sweep-set}
@@ -138,10 +138,6 @@ pub record Entered (b : Book) (st : List ℕ) (s : ℕ) (p : Pattern) (st′ : L
   pub back : (x : ℕ) → state st′ x ≡ 3 → (x ≡ s) ⊎ (state st x ≡ 3)
   pub bound : (x : ℕ) → binds s p (site b x) ≡ true → 0 < state st′ x
   pub origin : (x : ℕ) → 2 ≤ state st′ x → (x ≡ s) ⊎ ((2 ≤ state st x) ⊎ (binds s p (site b x) ≡ true))
-
-pub heads-in : (s : ℕ) (rs : List ℕ) → heads s rs ≡ true → List·Memᴰ s rs
-heads-in s [] e = absurd (false≢true e)
-heads-in s (r ∷ rs) e = List·Memᴰ·head (sym (eqb-true r s e))
 
 module _ (b : Book) (s : ℕ) (p : Pattern) where
   binds-parts : (x : ℕ) → binds s p (site b x) ≡ true → (site b x .kind ≡ 7) × List·Memᴰ s (site b x .sources)

@@ -1,16 +1,16 @@
 -- Demand 3: the tree of an accepted book uses no site, up to each block's first Return, that is not bound.
 use mathlib.Core.Path.{_≡_, refl, sym, _∙_, ap, subst}
 use mathlib.Core.Logic.{_⊎_, inl, inr}
-use mathlib.Core.Bool.{Bool, true, false, true≢false}
+use mathlib.Core.Bool.{true}
 use mathlib.Core.List.{Memᴰ·append-left, Memᴰ·append-right, List, [], _∷_, List·Memᴰ, List·Memᴰ·head, List·Memᴰ·tail, List·Memᴰ·not-nil, List·Memᴰ·cases-cons}
 use mathlib.Core.Option.{Option, none, some}
 use Prim.Native.Nat.{ℕ, suc, _≤_, _<_}
 use native.Mathlib.Omega.{arith}
 use lib.ListN.{length, set}
 use borrow.Author.Tests.{eqb-true, eq-eqb, ltb-true}
-use Rattle.definition.specs.Lists.{upto, first}
-use Rattle.laws.specs.Tests.{split, every-at, both, and, or-right}
-use Rattle.laws.specs.Members.{all-from, mem-map, mem-from}
+use Rattle.definition.specs.Lists.{upto}
+use Rattle.laws.specs.Tests.{every-at, both, and, or-right}
+use Rattle.laws.specs.Members.{all-from, mem-map, mem-from, first-of, heads-in}
 use Rattle.definition.specs.Book.{Book, Pattern, site, rule, constrains, linked}
 use Rattle.definition.specs.Tree.{Block, Flow, step, match, equal}
 use Rattle.definition.specs.Scope.{state, Scope, binds, inside, Use, use-site, use-all, worked-out, emit-bound, arm-states}
@@ -18,7 +18,7 @@ use Rattle.definition.specs.Choice.{Test, on, same, counted, deferred}
 use Rattle.definition.specs.Plan.{tested, returns, return-steps, ranked, outranks, patterns, asking, places, arms, block, uses-of, after, lets-of, stands-at, place-at}
 use Rattle.definition.specs.Accept.{named}
 use Rattle.theorems.specs.Partition.{no-higher}
-use Rattle.theorems.specs.ArmStates.{entered, heads-in}
+use Rattle.theorems.specs.ArmStates.{entered}
 use Rattle.theorems.specs.Classes.{pair}
 use Rattle.theorems.specs.RightSteps.{ranked-first}
 use Rattle.theorems.specs.Frame.{Frame, Done, named-uses, reached}
@@ -27,16 +27,6 @@ use Rattle.definition.specs.Bound.{is-bound, grown, arm-binds, is-return, block
 use Rattle.theorems.specs.LetsBind.{Sub, bound-more, bound-mem, Going, each-used, site-used}
 use Rattle.theorems.specs.Accepted.{Good, inside-book}
 use Rattle.laws.specs.Orders.{same-number-equal}
-
--- the first that passes
-first-of : {A : Type 0} (q : A → Bool) (x : A) (xs : List A) → List·Memᴰ x xs → q x ≡ true → (y : A) × (first q xs ≡ some y) × (q y ≡ true)
-first-of q x [] m e = absurd (List·Memᴰ·not-nil m)
-first-of {A} q x (z ∷ xs) m e = go (split (q z)) (List·Memᴰ·cases-cons m) (first-of q x xs)
-  where
-    go : (q z ≡ true) ⊎ (q z ≡ false) → (x ≡ z) ⊎ List·Memᴰ x xs → (List·Memᴰ x xs → q x ≡ true → (y : A) × (first q xs ≡ some y) × (q y ≡ true)) → (y : A) × (first q (z ∷ xs) ≡ some y) × (q y ≡ true)
-    go (inl f) k rec = (z, rw f refl, f)
-    go (inr f) (inl k) rec = absurd (true≢false (sym e ∙ ap q k ∙ f))
-    go (inr f) (inr k) rec = let r = rec k e in (r .0, rw f (r .1), r .2)
 
 arm-binds-sub : (ps : List (Option ℕ)) (γ : List ℕ) → Sub γ (arm-binds ps γ)
 arm-binds-sub [] γ x m = m

@@ -10,14 +10,14 @@ use lib.ListN.{length, set}
 use borrow.Author.Tests.{eqb-true, eqb-false, eq-eqb, ne-eqb, not-true}
 use Rattle.definition.specs.Lists.{every, filter, all, flat, heads, same-number, _implies_}
 use Rattle.laws.specs.Tests.{split, every-at, both, and}
-use Rattle.laws.specs.Members.{all-at, any-at, any-from, filter-in, filter-from, mem-length, filter-le, filter-lt, mem-map, mem-flat}
+use Rattle.laws.specs.Members.{all-at, any-at, any-from, filter-in, filter-from, mem-length, filter-le, filter-lt, mem-map, mem-flat, heads-in}
 use Rattle.definition.specs.Book.{Book, Site, Rule, Constraint, Pattern, Pair, site, rule, pattern-on, constrains, label, linked, is-on}
 use Rattle.definition.specs.Plan.{asking, asks-for, uses-of}
 use Rattle.definition.specs.Scope.{state, Scope, binds, worked-out, emit-bound, inside, arm-states}
 use Rattle.definition.specs.Choice.{testable, Test, on, same, has, is-open, tests}
 use Rattle.definition.specs.Accept.{grants, granted, sound-below, named, ends, site-of}
 use Rattle.theorems.specs.States.{Same}
-use Rattle.theorems.specs.ArmStates.{Sites, sites-same, Entered, entered, heads-in}
+use Rattle.theorems.specs.ArmStates.{Sites, sites-same, Entered, entered}
 use Rattle.theorems.specs.Classes.{respected, pair, spare, spare-falls, spare-none, linked-yes, yes-linked}
 use Rattle.theorems.specs.RightSteps.{constrained}
 use Rattle.theorems.specs.Patterns.{same-pattern-equal}

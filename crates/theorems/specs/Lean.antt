@@ -1,5 +1,5 @@
 -- A planned tree is lean: no let list is longer than there are sites, and every step and every arm leads to a Return.
-use mathlib.Core.Path.{_≡_, refl, sym, _∙_}
+use mathlib.Core.Path.{_≡_, refl, _∙_}
 use mathlib.Core.Bool.{Bool, true, _&&_}
 use mathlib.Core.List.{List, [], _∷_, List·Memᴰ, List·Memᴰ·head, List·Memᴰ·tail}
 use Prim.Native.Nat.{ℕ, suc, _≤_, _<_}
@@ -14,7 +14,7 @@ use Rattle.definition.specs.Choice.{Test, on, same, counted, deferred}
 use Rattle.definition.specs.Plan.{tested, uses-of, returns, return-steps, ranked, outranks, patterns, asks-for, asking, arms, block, after, lets-of}
 use Rattle.laws.specs.Tests.{and}
 use Rattle.laws.specs.Members.{filter-from, mem-length}
-use Rattle.laws.specs.Totals.{total, total-length}
+use Rattle.laws.specs.Totals.{total-same}
 use Rattle.theorems.specs.Partition.{no-higher}
 use Rattle.theorems.specs.Accepted.{Good}
 use Rattle.theorems.specs.Classes.{pair}
@@ -38,10 +38,6 @@ unfoldable mutual
   pub lean-arms : Arms → Bool
   lean-arms no-arms = true
   lean-arms (arm p ps k as′) = 0 below length (returned k) && (lean k && lean-arms as′)
-
--- as many Returns as rules
-returned-length : (l w : List ℕ) → ((v : ℕ → ℕ) → total v l ≡ total v w) → length l ≡ length w
-returned-length l w h = sym (total-length l) ∙ h (λ j. 1) ∙ total-length w
 
 module _ (b : Book) (g : Good b) where
   abbrev LeanP : ℕ → Scope → List ℕ → Block → Type 0
@@ -73,7 +69,7 @@ module _ (b : Book) (g : Good b) where
   lean-step n σ w t v r c f k p q =
       let few = lets-few b g (tested t) (σ .states) (λ s m. r s m .inside-sites) (v .sites .sized) in
       let full = v .sites .full in
-      let some = returned-length (flow-returned f) (counted b t w) (p .0) in
+      let some = total-same (flow-returned f) (counted b t w) (p .0) in
       (once-step b g n σ w t v r c f k (p .0) (q .0), and (and (le-leb (length (lets-of b σ t)) most (omega arith)) (lt-ltb 0 (length (flow-returned f)) (omega arith))) (and (p .1) (q .1)))
 
   lean-equal : (n : ℕ) (σ : Scope) (w : List ℕ) (x y : ℕ) → x < y → Frame b (suc n) σ w → Ready b g σ x → Ready b g σ y → ((i : ℕ) → List·Memᴰ i w → linked (rule b i .pairs) x y ≡ true)
@@ -96,11 +92,11 @@ module _ (b : Book) (g : Good b) where
       all-arms (p ∷ ps) i =
           let m = i p (List·Memᴰ·head refl) in
           let k = sub (inside b σ s p) (asking b s p w) in
-          let e = returned-length (returned (sub (inside b σ s p) (asking b s p w))) (asking b s p w) (h p m .0) in
+          let e = total-same (returned (sub (inside b σ s p) (asking b s p w))) (asking b s p w) (h p m .0) in
           let a = asked p m in
           and (lt-ltb 0 (length (returned (sub (inside b σ s p) (asking b s p w)))) (omega (arith, e, a))) (and (h p m .1) (all-arms ps (λ q n′. i q (List·Memᴰ·tail n′))))
 
   pub block-lean : (n : ℕ) (σ : Scope) (w : List ℕ) → Frame b n σ w → (length (returned (block b n σ w)) ≡ length w) × (lean (block b n σ w) ≡ true)
   block-lean n σ w v =
       let q = built b g LeanP LeanQ lean-returns lean-step lean-match lean-equal n σ w v in
-      (returned-length (returned (block b n σ w)) w (q .0), q .1)
+      (total-same (returned (block b n σ w)) w (q .0), q .1)

@@ -1,8 +1,7 @@
 -- Every site that a planned tree names is the book's.
 use mathlib.Core.Path.{_≡_, refl}
-use mathlib.Core.Logic.{_⊎_, inl, inr}
 use mathlib.Core.Bool.{Bool, true, false}
-use mathlib.Core.List.{List, [], _∷_, _++_, map, List·Memᴰ, List·Memᴰ·head, List·Memᴰ·tail, List·Memᴰ·not-nil, List·Memᴰ·cases-cons, List·Memᴰ·append-cases, Memᴰ·append-right}
+use mathlib.Core.List.{List, [], _∷_, _++_, map, List·Memᴰ, List·Memᴰ·head, List·Memᴰ·tail, Memᴰ·append-right}
 use mathlib.Core.Option.{Option, none, some}
 use Prim.Native.Nat.{ℕ, suc, _<_}
 use native.Mathlib.Omega.{arith}
@@ -15,6 +14,7 @@ use Rattle.definition.specs.Choice.{Test, on, same, counted, deferred}
 use Rattle.definition.specs.Plan.{tested, uses-of, returns, return-steps, ranked, outranks, patterns, asking, places, place-at, stands-at, arms, block, after, lets-of}
 use Rattle.definition.specs.Walk.{placed-in, sites-in, flow-sites, arm-sites}
 use Rattle.laws.specs.Members.{from-bounds}
+use Rattle.laws.specs.Ascending.{Within, within-append, within-cons, within-none}
 use Rattle.theorems.specs.Partition.{no-higher}
 use Rattle.theorems.specs.Accepted.{Good}
 use Rattle.theorems.specs.Classes.{pair}
@@ -22,27 +22,6 @@ use Rattle.theorems.specs.Frame.{Frame, Done, named-uses}
 use Rattle.theorems.specs.Built.{Ready, built}
 use Rattle.theorems.specs.LetLists.{sites-low}
 use Rattle.theorems.specs.WellFormed.{ranked-in}
-
--- all of them are below n
-abbrev pub Within : ℕ → List ℕ → Type 0
-Within n l = (x : ℕ) → List·Memᴰ x l → x < n
-
-within-append : {n : ℕ} (k l : List ℕ) → Within n k → Within n l → Within n (k ++ l)
-within-append {n} k l p q x m = go (List·Memᴰ·append-cases k m)
-  where
-    go : List·Memᴰ x k ⊎ List·Memᴰ x l → x < n
-    go (inl i) = p x i
-    go (inr i) = q x i
-
-within-cons : {n y : ℕ} {l : List ℕ} → y < n → Within n l → Within n (y ∷ l)
-within-cons {n} {y} {l} p q x m = go (List·Memᴰ·cases-cons m)
-  where
-    go : (x ≡ y) ⊎ List·Memᴰ x l → x < n
-    go (inl e) = rw e p
-    go (inr i) = q x i
-
-within-none : {n : ℕ} → Within n []
-within-none x m = absurd (List·Memᴰ·not-nil m)
 
 -- the first that passes is one of the list
 first-within : {n : ℕ} (q : ℕ → Bool) (l : List ℕ) → Within n l → Within n (placed-in (first q l ∷ []))

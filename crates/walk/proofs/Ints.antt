@@ -1,6 +1,6 @@
 -- Words of 32 bits as signed numbers, and patterns that a rule record may hold.
 use mathlib.Core.Path.{_≡_, refl, sym, ap, subst, _∙_}
-use mathlib.Core.Bool.{Bool, true, false, _&&_}
+use mathlib.Core.Bool.{true, false}
 use Prim.Native.Nat.{ℕ, zero, suc, _+_, _-_, _<_, _≤_, _^_}
 use native.Mathlib.Omega.{arith}
 use native.Mathlib.Decide.{decLt}
@@ -15,6 +15,7 @@ use Rattle.definition.specs.Accept.{pattern-ok}
 use Rattle.definition.specs.Tables.{signed}
 use Rattle.laws.specs.Tests.{same-test}
 use Rattle.laws.specs.Orders.{same-number-equal, same-number-self}
+use Rattle.laws.specs.Answers.{and-true}
 use Rattle.walk.specs.Ends.{pattern-at}
 
 minus-pos : (k : ℕ) → negsuc 0 -ℤ pos k ≡ negsuc k
@@ -41,10 +42,6 @@ same-is a b f g =
     (λ e. eq-eqb (ofZ w32 a) (ofZ w32 b) (ap (ofZ w32) (same-number-equal a b e)))
 
 -- PATTERNS
-and-one : (x : Bool) → x && true ≡ x
-and-one true = refl
-and-one false = refl
-
 zero-is : (w : ℕ) → eqb w 0 ≡ same-number (signed w) (pos 0)
 zero-is w = elim (decLt w 2147483648) [
   | yes p ↦ sym (rw (lt-ltb w 2147483648 p))
@@ -54,15 +51,15 @@ zero-is w = elim (decLt w 2147483648) [
 module _ (k f w : ℕ) where
   pub kind-low : k < 2 → eqb f 0 ≡ pattern-ok (pattern-at k (signed w) f)
   unfolding pattern-ok every
-  kind-low h = sym (rw (le-leb k 3 (omega arith), lt-ltb k 2 h, ne-eqb k 2 (λ e. omega arith), ne-eqb k 3 (λ e. omega arith)) (and-one (eqb f 0)))
+  kind-low h = sym (rw (le-leb k 3 (omega arith), lt-ltb k 2 h, ne-eqb k 2 (λ e. omega arith), ne-eqb k 3 (λ e. omega arith)) (and-true (eqb f 0)))
 
   pub kind-two : k ≡ 2 → leb f 4 ≡ pattern-ok (pattern-at k (signed w) f)
   unfolding pattern-ok every
-  kind-two h = sym (rw h (and-one (leb f 4)))
+  kind-two h = sym (rw h (and-true (leb f 4)))
 
   pub kind-three : k ≡ 3 → f ≡ 1 → eqb w 0 ≡ pattern-ok (pattern-at k (signed w) f)
   unfolding pattern-ok every
-  kind-three h e = zero-is w ∙ sym (rw (h, e) (and-one (same-number (signed w) (pos 0))))
+  kind-three h e = zero-is w ∙ sym (rw (h, e) (and-true (same-number (signed w) (pos 0))))
 
   pub kind-fields : k ≡ 3 → (f ≡ 1 → ⊥) → false ≡ pattern-ok (pattern-at k (signed w) f)
   unfolding pattern-ok every

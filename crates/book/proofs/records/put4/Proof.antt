@@ -2,7 +2,7 @@
 use native.Mathlib.Omega.{arith}
 use borrow.Author.Needs.{needs}
 use lib.ListN.{length-set}
-use Rattle.book.proofs.Recording.{run4}
+use Rattle.laws.specs.Stores.{run4}
 use Rattle.book.proofs.records.put4.Statement.{statement}
 use Rattle.book.proofs.records.put4.Tie as tie
 

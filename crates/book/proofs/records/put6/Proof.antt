@@ -2,7 +2,7 @@
 use native.Mathlib.Omega.{arith}
 use borrow.Author.Needs.{needs}
 use lib.ListN.{length-set}
-use Rattle.book.proofs.Recording.{run6}
+use Rattle.laws.specs.Stores.{run6}
 use Rattle.book.proofs.records.put6.Statement.{statement}
 use Rattle.book.proofs.records.put6.Tie as tie
 
