@@ -183,7 +183,7 @@ def case_of(asked, rng, name=""):
     length = min(ROOM_WORDS, rng.choice((fits, fits, fits + 7, max(0, fits - 1), rng.randrange(64))))
     answer, room = plan(asked.data, fresh_room(length))
     readings = some_readings(asked, answer, rng)
-    return Case(name, asked.data, length, answer, room, [(r, walk(room, r)) for r in readings])
+    return Case(name, asked.data, answer, room, [(r, walk(room, r)) for r in readings])
 
 
 def some_readings(asked, answer, rng):

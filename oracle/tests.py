@@ -9,6 +9,7 @@ from random import Random
 
 import programs
 from books import readings as made
+from books.given import nested, one_arm, one_step
 from books.refused import every_fault, two_faults
 from books.styles import MAKERS
 from books.worked import B, D, I, J_ANSWERS, J_CALLS, WORKED
@@ -25,6 +26,7 @@ from judge.words import NoTree, block_words, plan, tree_of
 from shrink import smallest
 
 HERE = Path(__file__).parent
+LISTS = HERE.parent / "crates" / "replay" / "data"
 NO_SITES = Reading((), (), ())
 ONE_SITE = Reading((0,), (0,), (0,))
 TWO_SITES = Reading((0, 0), (0, 0), (1, 1))
@@ -147,22 +149,6 @@ class WordsThatAreNoTree(unittest.TestCase):
                 self.assertEqual(again, other[:len(again)])
 
 
-def one_step(*words):
-    """A root block of one step, its length word made right."""
-    return [1 + len(words), 1, *words]
-
-
-def one_arm(kind, fields, number, places=None):
-    """A root block that matches site 0 against one pattern and does nothing then."""
-    places = [65535] * min(fields, 9) if places is None else places
-    return one_step(0, 0, 0, 1, kind, fields, number, *places, 1, 0)
-
-
-def nested(depth):
-    """Equal steps one inside the other."""
-    return [1, 0] if depth == 0 else one_step(0, 1, 0, 1, *nested(depth - 1))
-
-
 class Walks(unittest.TestCase):
     def test_10_before_11_before_12(self):
         words = words_of(D)
@@ -241,19 +227,20 @@ class CaseFiles(unittest.TestCase):
 
     def test_the_checked_in_lists_are_as_the_judge_says(self):
         replay = [sys.executable, str(HERE / "replay")]
-        for path in sorted((HERE / "lists").glob("*.case")):
+        for path in sorted(LISTS.glob("*.case")):
             self.assertIsNone(programs.replay_differs(replay, cases_of(path.read_bytes())))
 
     def test_the_checked_in_lists_cover_every_answer(self):
-        cases = [case for path in (HERE / "lists").glob("*.case") for case in cases_of(path.read_bytes())]
-        refused = {case.answer[1] for case in cases if case.answer[0] == "refused"}
+        cases = [case for path in LISTS.glob("*.case") for case in cases_of(path.read_bytes())]
+        answers = [case.answer for case in cases if case.data is not None]
+        refused = {answer[1] for answer in answers if answer[0] == "refused"}
         walked = {answer[:1] + answer[1:2] * (answer[0] == "refused")
                   for case in cases for _, answer in case.readings}
         self.assertEqual(refused, set(range(1, 10)))
         self.assertEqual(walked, {("found",), ("nothing",), ("refused", 10), ("refused", 11), ("refused", 12)})
 
     def test_every_case_has_a_name(self):
-        for path in (HERE / "lists").glob("*.case"):
+        for path in LISTS.glob("*.case"):
             names = path.with_suffix(".txt").read_text().splitlines()
             self.assertEqual(len(names), len(cases_of(path.read_bytes())))
             self.assertEqual(len({name.split(" ", 1)[1] for name in names}), len(names), path)
