@@ -15,8 +15,8 @@ from books.styles import MAKERS
 from books.worked import B, D, I, J_ANSWERS, J_CALLS, WORKED
 from books.write import bytes_of, mended
 from caselists import RICH
-from casefile import cases_of, file_bytes
-from comparison import asked_book, case_of, judge_sets
+from casefile import Case, cases_of, file_bytes
+from comparison import Comparison, asked_book, judge_sets, replay_cases
 from faults import FAULTS
 from judge import sets
 from judge.book import book_of, refusal
@@ -221,7 +221,7 @@ class Makers(unittest.TestCase):
 
 class CaseFiles(unittest.TestCase):
     def test_what_is_written_is_read(self):
-        cases = [case_of(asked_book("cases", k), Random(k)) for k in range(20)]
+        cases = [case for k in range(20) for case in some_cases(k)]
         self.assertEqual(cases_of(file_bytes(cases)), [
             case._replace(name=f"case {k}") for k, case in enumerate(cases)])
 
@@ -245,10 +245,40 @@ class CaseFiles(unittest.TestCase):
             self.assertEqual(len(names), len(cases_of(path.read_bytes())))
             self.assertEqual(len({name.split(" ", 1)[1] for name in names}), len(names), path)
 
-    def test_a_wrong_answer_is_seen(self):
-        case = case_of(asked_book("cases", 0), Random(0))
-        replay = [sys.executable, str(HERE / "replay")]
-        self.assertIsNotNone(programs.replay_differs(replay, [case._replace(answer=("words", 1))]))
+    def test_a_wrong_word_a_wrong_room_and_a_wrong_walk_are_seen(self):
+        planned = [case for case in some_cases(0) if case.data is not None]
+        right = next(case for case in planned if case.answer == ("words", len(case.room) - 7))
+        reading, answer = right.readings[0]
+        self.assertNotEqual(answer, ("nothing",))
+        words, count = right.room, right.answer[1]
+        wrong = {
+            "another answer": right._replace(answer=("words", count + 1)),
+            "a refusal": right._replace(answer=("refused", 9)),
+            "a word of the tree": right._replace(room=words[:3] + [words[3] + 1] + words[4:]),
+            "a word behind the tree": right._replace(room=words[:-1] + [0]),
+            "a walk": right._replace(readings=[(reading, ("nothing",))]),
+            "a walk of given words": Case("", None, None, words, [(reading, ("refused", 11))]),
+        }
+        for replay in replays():
+            self.assertIsNone(programs.replay_differs(replay, [right]))
+            for name, case in wrong.items():
+                self.assertIsNotNone(programs.replay_differs(replay, [right, case, right]), (name, replay))
+
+    def test_a_cut_file_agrees_with_nothing(self):
+        raw = file_bytes(some_cases(0))
+        for replay in replays():
+            for end in (0, 3, 12, 13, 600, len(raw) - 1):
+                self.assertIsNotNone(programs.printed_differs(replay, raw[:end], "cases 6 readings 16 differ 0"))
+
+
+def some_cases(number):
+    return replay_cases(Comparison(None).judged(asked_book("cases", number), Random(number)))
+
+
+def replays():
+    """The judge's replay, and the Rattle program where it stands."""
+    built = programs.BUILT / "replay"
+    return [[sys.executable, str(HERE / "replay")]] + [[str(built)]] * built.is_file()
 
 
 class Programs(unittest.TestCase):
