@@ -38,7 +38,7 @@ def asked_book(seed, number):
     if slot in RARE:
         return accepted_book(RARE[slot], rng)
     if slot % 5 == 4:
-        return spoiled_book(list(SPOILERS)[number // 5 % len(SPOILERS)], rng)
+        return spoiled_book(rng.choice(list(SPOILERS)), rng)
     return accepted_book(COMMON[number % len(COMMON)], rng)
 
 

@@ -6,6 +6,7 @@ ghost use lib.ListN.{length};
 // The length of a list that does not come whole or does not fit; no room is as long.
 const NO_LIST: usize = 18446744073709551615;
 
+// A byte as a word.
 fn wide(x: u8) -> u32
     ensures { λ r. ⌜ (r ≡ x) × (r < 256) ⌝ }
 {
@@ -43,6 +44,7 @@ pub fn is_more(fd: i32) -> bool {
     0 < got
 }
 
+// The words that the bytes stand for.
 fn put_words(bytes: &[u8], words: &mut [u32])
     requires { ⌜ 4 * length (now words) ≤ length (now bytes) ⌝ }
 {
@@ -53,6 +55,7 @@ fn put_words(bytes: &[u8], words: &mut [u32])
     }
 }
 
+// The signed numbers that the words stand for.
 fn put_numbers(words: &[u32], numbers: &mut [i32])
     requires { ⌜ length (now numbers) ≤ length (now words) ⌝ }
 {
@@ -122,6 +125,7 @@ pub fn words(fd: i32, room: &mut [u32]) -> usize {
     n
 }
 
+// Room for the words of signed numbers.
 fn list_room() -> [u32; 1024]
     ensures { λ r. ⌜ 1024 ≡ length r ⌝ }
 {

@@ -31,37 +31,47 @@ struct Tally {
     whole: bool,
 }
 
-fn book_room() -> [u8; 66048]
+// The most that a case may hold: bytes of book, words of room, sites of a reading. Longer lists in a file are not read.
+const MOST_BYTES: usize = 66048;
+
+const MOST_WORDS: usize = 16384;
+
+const MOST_SITES: usize = 1024;
+
+// Room for the book.
+fn book_room() -> [u8; MOST_BYTES]
     ensures { λ r. ⌜ 66048 ≡ length r ⌝ }
 {
-    [0u8; 66048]
+    [0u8; MOST_BYTES]
 }
 
-fn words_room() -> [u32; 16384]
+// Room for the words, those that the file has or those that are planned.
+fn words_room() -> [u32; MOST_WORDS]
     ensures { λ r. ⌜ 16384 ≡ length r ⌝ }
 {
-    [0u32; 16384]
+    [0u32; MOST_WORDS]
 }
 
-fn kinds_room() -> [u8; 1024]
+// Room for a reading's pattern kinds, and below for its numbers and its identities.
+fn kinds_room() -> [u8; MOST_SITES]
     ensures { λ r. ⌜ 1024 ≡ length r ⌝ }
 {
-    [0u8; 1024]
+    [0u8; MOST_SITES]
 }
 
-fn numbers_room() -> [i32; 1024]
+fn numbers_room() -> [i32; MOST_SITES]
     ensures { λ r. ⌜ 1024 ≡ length r ⌝ }
 {
-    [0i32; 1024]
+    [0i32; MOST_SITES]
 }
 
-fn list_room() -> [u32; 1024]
+fn identities_room() -> [u32; MOST_SITES]
     ensures { λ r. ⌜ 1024 ≡ length r ⌝ }
 {
-    [0u32; 1024]
+    [0u32; MOST_SITES]
 }
 
-// Counts a case, a reading and differences to what was counted.
+// Adds cases, readings and differences to what was counted.
 fn counted(tally: Tally, cases: u64, readings: u64, differ: u64) -> Tally {
     Tally {
         cases: std::num::wrapping_add_u64(tally.cases, cases),
@@ -81,6 +91,7 @@ fn broken(tally: Tally) -> Tally {
     }
 }
 
+// The room as it is before a book is planned.
 fn refresh(room: &mut [u32]) {
     let mut k: usize = 0;
     while k < room.len() {
@@ -89,6 +100,7 @@ fn refresh(room: &mut [u32]) {
     }
 }
 
+// Word for word.
 fn same_words(a: &[u32], b: &[u32]) -> bool {
     if a.len() != b.len() {
         return false;
@@ -132,6 +144,7 @@ fn told_of(walked: Walked) -> Told {
     }
 }
 
+// Answer, rule and result are the same.
 fn same_told(a: Told, b: Told) -> bool {
     if a.answer == b.answer {
         if a.rule == b.rule {
@@ -179,17 +192,17 @@ fn plan_case(
 fn one_reading(fd: i32, case: usize, reading: usize, words: &[u32], tally: Tally) -> Tally {
     let mut kinds = kinds_room();
     let mut numbers = numbers_room();
-    let mut identities = list_room();
+    let mut identities = identities_room();
     let n = file::bytes(fd, &mut kinds);
     let m = file::numbers(fd, &mut numbers);
     let k = file::words(fd, &mut identities);
-    if n > 1024 {
+    if n > MOST_SITES {
         return broken(tally);
     }
-    if m > 1024 {
+    if m > MOST_SITES {
         return broken(tally);
     }
-    if k > 1024 {
+    if k > MOST_SITES {
         return broken(tally);
     }
     let mut last = [0u32; 3];
@@ -236,7 +249,7 @@ fn one_case(fd: i32, case: usize, tally: Tally) -> Tally {
     let mut room = words_room();
     let length = file::next_length(fd);
     let n = book_bytes(length);
-    if n > 66048 {
+    if n > MOST_BYTES {
         return broken(tally);
     }
     if !file::take_bytes(fd, n, &mut book) {
@@ -244,7 +257,7 @@ fn one_case(fd: i32, case: usize, tally: Tally) -> Tally {
     }
     let answer = file::next_length(fd);
     let m = file::words(fd, &mut wanted);
-    if m > 16384 {
+    if m > MOST_WORDS {
         return broken(tally);
     }
     if length == NO_BOOK {
@@ -336,6 +349,7 @@ fn arguments(count: usize) -> Tally {
     tally
 }
 
+// Prints nothing but the last line where all agrees.
 fn main() {
     let tally = arguments(os::arg_count());
     if tally.whole {

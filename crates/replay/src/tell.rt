@@ -16,10 +16,12 @@ pub fn refused(n: u8) -> u32 {
     REFUSED + n as u32
 }
 
+// Writes text as it stands.
 pub fn text(said: &[u8]) {
     io::write_all(STDOUT_FILENO, said);
 }
 
+// Writes a number in digits.
 pub fn number(n: u64) {
     io::print_decimal(STDOUT_FILENO, n);
 }

@@ -12,8 +12,8 @@ kinds-room-requires c κs = search needs
 numbers-room-requires : tie.Need-numbers-room-requires
 numbers-room-requires c κs = search needs
 
-list-room-requires : tie.Need-list-room-requires
-list-room-requires c κs = search needs
+identities-room-requires : tie.Need-identities-room-requires
+identities-room-requires c κs = search needs
 
 slice-aggregate-bytes : tie.Need-slice-aggregate-bytes
 slice-aggregate-bytes c = search needs
@@ -120,7 +120,7 @@ one-reading-spec =
     (tie.spec
     kinds-room-requires
     numbers-room-requires
-    list-room-requires
+    identities-room-requires
     slice-aggregate-bytes
     bytes-requires
     slice-aggregate-numbers
