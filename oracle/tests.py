@@ -276,9 +276,9 @@ def some_cases(number):
 
 
 def replays():
-    """The judge's replay, and the Rattle program where it stands."""
-    built = programs.BUILT / "replay"
-    return [[sys.executable, str(HERE / "replay")]] + [[str(built)]] * built.is_file()
+    """The judge's replay, and the command that REPLAY names; one that was built earlier is not asked."""
+    named = programs.command("REPLAY", "replay") if "REPLAY" in os.environ else None
+    return [[sys.executable, str(HERE / "replay")]] + ([named] if named else [])
 
 
 class Programs(unittest.TestCase):
