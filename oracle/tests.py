@@ -265,10 +265,13 @@ class CaseFiles(unittest.TestCase):
                 self.assertIsNotNone(programs.replay_differs(replay, [right, case, right]), (name, replay))
 
     def test_a_cut_file_agrees_with_nothing(self):
-        raw = file_bytes(some_cases(0))
+        cases = some_cases(0)
+        raw = file_bytes(cases)
+        agreed = f"cases {len(cases)} readings {sum(len(case.readings) for case in cases)} differ 0"
         for replay in replays():
+            self.assertIsNone(programs.printed_differs(replay, raw, agreed))
             for end in (0, 3, 12, 13, 600, len(raw) - 1):
-                self.assertIsNotNone(programs.printed_differs(replay, raw[:end], "cases 6 readings 16 differ 0"))
+                self.assertIsNotNone(programs.printed_differs(replay, raw[:end], agreed))
 
 
 def some_cases(number):
