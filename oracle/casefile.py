@@ -1,7 +1,16 @@
 """Case files: books with the answers that they have to give, replayed where no Rust is at hand.
 
-Little-endian: "CASE", version 1, number of cases; a case is the book, the room's length in words,
-the answer, the whole room after the call and the readings with their answers.
+Little-endian, and every list behind its length:
+
+    file     "CASE", word version (2), word number of cases, cases
+    case     bytes of book; word answer (a word count, or 0x80000000 + refusal);
+             words of the whole room after the call; word number of readings, readings
+    reading  bytes of kinds; signed numbers; words of identities;
+             word answer (0 found, 1 nothing, or 0x80000000 + refusal), word rule, word result
+
+The room has as many words before the call as after it, each of them 0xA5A5A5A5. A reading is walked
+over the room. Where nothing is found, rule and result are 65535. A book of length 0xFFFFFFFF stands
+for no book: nothing is planned, the answer is 0, and the room is walked as it stands in the file.
 """
 
 from struct import pack, unpack_from
@@ -13,14 +22,14 @@ FRESH_WORD = 0xA5A5A5A5  # every room word before the call
 REFUSED_BIT = 0x80000000
 NONE = 65535  # rule and result where there is none
 WALKED = ("found", "nothing")
-VERSION = 1
+NO_BOOK = 0xFFFFFFFF  # in place of the book's length
+VERSION = 2
 
 
 class Case(NamedTuple):
     name: str  # not in the file: the list of names stands beside it
-    data: bytes
-    room_length: int
-    answer: tuple
+    data: bytes  # None where nothing is planned
+    answer: tuple  # None where nothing is planned
     room: list  # the whole room after the call
     readings: list  # of (Reading, answer)
 
@@ -34,11 +43,11 @@ def file_bytes(cases):
 
 
 def case_bytes(case):
-    assert len(case.room) == case.room_length
-    parts = [sized(case.data, len(case.data)), number(case.room_length), number(answer_word(case.answer))]
-    parts.append(sized(words_bytes(case.room), len(case.room)))
-    parts.append(number(len(case.readings)))
-    return b"".join(parts) + b"".join(reading_bytes(*one) for one in case.readings)
+    planned = number(NO_BOOK) + number(0)
+    if case.data is not None:
+        planned = sized(case.data, len(case.data)) + number(answer_word(case.answer))
+    readings = b"".join(reading_bytes(*one) for one in case.readings)
+    return planned + sized(words_bytes(case.room), len(case.room)) + sized(readings, len(case.readings))
 
 
 def reading_bytes(reading, answer):
@@ -88,8 +97,7 @@ class Cursor:
     def number(self):
         return self.take("I")[0]
 
-    def bytes(self):
-        size = self.number()
+    def bytes(self, size):
         self.at += size
         return self.raw[self.at - size:self.at]
 
@@ -103,16 +111,22 @@ def cases_of(raw):
 
 
 def read_case(cursor, name):
-    data = bytes(cursor.bytes())
-    room_length, word = cursor.number(), cursor.number()
-    answer = ("refused", word - REFUSED_BIT) if word >= REFUSED_BIT else ("words", word)
+    size = cursor.number()
+    data = None if size == NO_BOOK else cursor.bytes(size)
+    answer = read_answer(cursor.number(), data)
     room = list(cursor.take(f"{cursor.number()}I"))
     readings = [read_reading(cursor) for _ in range(cursor.number())]
-    return Case(name, data, room_length, answer, room, readings)
+    return Case(name, data, answer, room, readings)
+
+
+def read_answer(word, data):
+    if data is None:
+        return None
+    return ("refused", word - REFUSED_BIT) if word >= REFUSED_BIT else ("words", word)
 
 
 def read_reading(cursor):
-    kinds = tuple(cursor.bytes())
+    kinds = tuple(cursor.bytes(cursor.number()))
     numbers = cursor.take(f"{cursor.number()}i")
     identities = cursor.take(f"{cursor.number()}I")
     word, rule, result = cursor.take("3I")

@@ -1,20 +1,21 @@
-"""The named cases of the checked-in lists: worked books, refusals, limits and every style."""
+"""The named cases of the checked-in lists: worked books, refusals, limits, styles and given words."""
 
 import re
 from random import Random
 from typing import NamedTuple
 
 from books import readings as made
+from books.given import BY_HAND, every_damage
 from books.refused import byte_changed, byte_changed_mended, every_fault, two_faults
 from books.styles import MAKERS
-from books.worked import A, B, WORKED, integer, variant
+from books.worked import A, B, D, WORKED, integer, variant
 from books.write import bytes_of, mended
 from judge.book import (
     ARGUMENT, BOUND_BY_PATTERN, CONST_INT, CONST_PRIM, EXPRESSION, IS_PRIM, IS_SOME, IS_VARIANT,
     MAKE_STRUCT, MAKE_VARIANT, MATCH_TUPLE, Book, Constraint, Rule, Site, refusal,
 )
 from judge.plan import Planner
-from judge.walk import Reading
+from judge.walk import Reading, walk
 from judge.words import block_words
 
 LOWEST, HIGHEST = -2**31, 2**31 - 1
@@ -28,13 +29,20 @@ class Named(NamedTuple):
     readings: tuple = ()
 
 
-def words_needed(book):
-    return len(block_words(Planner(book).tree()))
+class Given(NamedTuple):
+    """The same without a book: words to be walked as they stand."""
+    name: str
+    words: list
+    readings: tuple = ()
+
+
+def words_of(book):
+    return block_words(Planner(book).tree())
 
 
 def fitting(name, book, spare=0, readings=()):
     """The book in a room that it fills, with some words to spare."""
-    return Named(name, bytes_of(book), words_needed(book) + spare, tuple(readings))
+    return Named(name, bytes_of(book), len(words_of(book)) + spare, tuple(readings))
 
 
 def usual_readings(book, rng, count=3):
@@ -91,22 +99,27 @@ def refused_cases():
     yield fitting("rich-book-itself", RICH, 0, usual_readings(RICH, Random("rich")))
     seen = {}
     for fault in every_fault(RICH):
-        shape = re.sub(r"\d+", "#", f"{fault.number} {fault.label}")
-        seen.setdefault(shape, []).append(fault)
-    for faults in seen.values():
-        for fault in {faults[0].label: faults[0], faults[-1].label: faults[-1]}.values():
-            yield Named(f"{fault.number}: {fault.label}", fault.data, 3, readings[:1])
+        seen.setdefault(place_of(fault), fault)
+    for fault in seen.values():
+        yield Named(f"{fault.number}: {fault.label}", fault.data, 3, readings[:1])
     rng = Random("two faults")
     both = {}
-    while len(both) < 24:
+    while len(both) < 10:
         fault = two_faults(RICH, rng)
         if " / " in fault.label:  # not one that had to stay alone
             both[fault.label] = fault
     for label, fault in both.items():
         yield Named(f"lowest is {fault.number}: {label}", fault.data, 2, readings)
-    for k in range(16):
+    for k in range(6):
         spoiled = byte_changed_mended(RICH, rng) if k % 4 else byte_changed(RICH, rng)
         yield Named(f"changed: {spoiled.label}", spoiled.data, 99, readings)
+
+
+def place_of(fault):
+    """The field that the fault is in; records of a kind, sums and fillers are alike."""
+    if fault.number == 2 or "filler" in fault.label:
+        return fault.number, re.sub(r"\d+", "#", fault.label)
+    return fault.number, re.sub(r"^(site|rule) \d+|(?<= is )\d+$", "#", fault.label)
 
 
 # Limits
@@ -151,7 +164,7 @@ def count_cases():
     yield Named("253-rules", bytes_of(many_rules(253)), 4)
     yield Named("sites-and-no-rules", bytes_of(Book(many_sites(50).sites, ())), 2,
                 (Reading((), (), ()),))
-    arms = tuple(Rule(0, k, 40, (integer(0, k),)) for k in range(252))
+    arms = tuple(Rule(0, k, 40, (integer(0, k),)) for k in range(60))
     large = Book(many_sites(41).sites, arms)
     yield Named("large-tree-in-a-small-room", bytes_of(large), 100, usual_readings(large, rng, 1))
     listed_often = Book(large.sites, arms[:12])
@@ -212,8 +225,8 @@ def fault_cases():
 
 # Styles
 
-BOOKS_A_STYLE = 4
-LARGE = {"full": 1, "one-sided": 3, "long-lets": 0}  # long let lists have a small case under limits
+BOOKS_A_STYLE = 3
+LARGE = {"full": 1, "sparse": 2, "dense": 2, "long-lets": 0}  # long let lists have a small case under limits
 
 
 def style_cases(seed):
@@ -225,9 +238,46 @@ def style_cases(seed):
             yield fitting(f"{style}-{number}", book, spare, usual_readings(book, rng))
 
 
+# Given words
+
+# A small tree with places: one empty, and one that leads on.
+PLACES = Book(
+    (Site(ARGUMENT), Site(BOUND_BY_PATTERN, (0,), IS_VARIANT, 0, 1), Site(BOUND_BY_PATTERN, (1,), IS_SOME)),
+    (Rule(0, 4, 2, (variant(0, 1, 2), Constraint(1, IS_SOME, 1, 0))),),
+)
+MANY_SITES = 252
+
+
+def given_cases():
+    """Every word of small trees changed, and word lists by hand."""
+    for name, words in BY_HAND.items():
+        yield Given(name, words, (Reading((), (), ()), *damage_readings(PLACES, words)))
+    for letter, book in (("A", A), ("B", B), ("D", D), ("places", PLACES)):
+        words = words_of(book)
+        for at, other, changed in every_damage(words):
+            yield Given(f"{letter}: word {at}, {words[at]}, is {other}", changed,
+                        damage_readings(book, changed))
+
+
+def damage_readings(book, words):
+    """One that suits the first rule; if that is too short for the changed words, one of 252 sites."""
+    short = suiting(book, len(book.sites))
+    if walk(words, short) == ("refused", 12):
+        return short, suiting(book, MANY_SITES)
+    return (short,)
+
+
+def suiting(book, length):
+    """A reading of so many sites, all of one identity, that suits the book's first rule."""
+    kinds, numbers, identities = [0] * length, [0] * length, [7] * length
+    for rule in book.rules[:1]:
+        made.suit(rule, kinds, numbers, identities)
+    return Reading(tuple(kinds), tuple(numbers), tuple(identities))
+
+
 def lists(seed):
     """File name: its cases."""
     return {
         "worked": list(worked_cases()), "refused": list(refused_cases()),
-        "limits": list(limit_cases()), "styles": list(style_cases(seed)),
+        "limits": list(limit_cases()), "styles": list(style_cases(seed)), "given": list(given_cases()),
     }

@@ -4,6 +4,7 @@ from random import Random
 from typing import NamedTuple
 
 from books import readings as made
+from books.given import some_damage
 from books.refused import SPOILERS
 from books.styles import MAKERS
 from books.write import bytes_of
@@ -11,8 +12,8 @@ from casefile import Case, fresh_room
 from judge.book import book_of, refusal
 from judge.plan import Planner
 from judge.sets import find, in_same_set, merge, remove_set_of
-from judge.walk import answer_is_right, walk
-from judge.words import block_words, plan, tree_of
+from judge.walk import Reading, answer_is_right, walk
+from judge.words import block_words, tree_of
 from programs import ROOM_WORDS, planner_differs
 from rust import Panicked
 
@@ -20,6 +21,8 @@ ACCEPTED, OPEN = 0, None  # what a book's maker expects: no refusal, or it canno
 RARE = {24: "one-sided", 49: "full", 74: "one-sided", 99: "long-lets"}  # of a hundred books
 COMMON = [name for name in MAKERS if name not in RARE.values()]
 READINGS_A_BOOK = 4
+CHANGES_A_BOOK = 2
+SOME_READING = Reading((0,), (0,), (0,))  # walked where a book is refused
 
 
 class Asked(NamedTuple):
@@ -35,7 +38,7 @@ def asked_book(seed, number):
     if slot in RARE:
         return accepted_book(RARE[slot], rng)
     if slot % 5 == 4:
-        return spoiled_book(list(SPOILERS)[number // 5 % len(SPOILERS)], rng)
+        return spoiled_book(rng.choice(list(SPOILERS)), rng)
     return accepted_book(COMMON[number % len(COMMON)], rng)
 
 
@@ -48,6 +51,19 @@ def spoiled_book(name, rng):
     return Asked(name, refused.data, refused.number)
 
 
+class Judged(NamedTuple):
+    """What the judge says of a book in a room as large as need be."""
+    asked: Asked
+    refused: object  # the refusal, or None; then there is no book, no word and no walk
+    book: object
+    words: list
+    walks: list  # of (Reading, answer): of every site, then one longer, one shorter, one lopsided
+
+    @property
+    def answer(self):
+        return ("words", len(self.words)) if self.refused is None else ("refused", self.refused)
+
+
 class Comparison:
     """Compares books and keeps count."""
 
@@ -58,37 +74,44 @@ class Comparison:
         self.readings = 0
         self.tally = {}  # style: counts by what happened
 
-    def tree(self, book):
-        return self.planner_class(book).tree()
-
-    def differences(self, asked, rng):
-        """What disagrees about a book, in words; mostly nothing."""
+    def judged(self, asked, rng):
+        """The judge's word on a book, with readings drawn for it."""
         refused = refusal(asked.data)
-        self.count(asked.style, "books")
-        if asked.expected is not OPEN and (refused or ACCEPTED) != asked.expected:
-            yield f"the judge refuses {refused}, planted was {asked.expected}"
         if refused is not None:
-            self.count(asked.style, f"refused {refused}")
-            yield from self.program_differences(asked.data, ("refused", refused), [])
-            return
+            return Judged(asked, refused, None, [], [])
         book = book_of(asked.data)
-        if bytes_of(book) != asked.data:
-            yield "writing what was read gives other bytes"
-        words = block_words(self.tree(book))
-        self.count(asked.style, "words", len(words))
-        yield from self.word_differences(asked.data, words)
-        yield from self.walk_differences(asked.style, book, words, rng)
-        yield from self.program_differences(asked.data, ("words", len(words)), words)
+        words = block_words(self.planner_class(book).tree())
+        readings = [made.some_reading(book, rng) for _ in range(READINGS_A_BOOK)]
+        readings += [odd(readings[-1], rng) for odd in (made.longer, made.shorter, made.lopsided)]
+        return Judged(asked, None, book, words, [(reading, walk(words, reading)) for reading in readings])
+
+    def differences(self, judged):
+        """What disagrees about a book, in words; mostly nothing."""
+        asked = judged.asked
+        self.count(asked.style, "books")
+        if asked.expected is not OPEN and (judged.refused or ACCEPTED) != asked.expected:
+            yield f"the judge refuses {judged.refused}, planted was {asked.expected}"
+        if judged.refused is not None:
+            self.count(asked.style, f"refused {judged.refused}")
+        else:
+            self.count(asked.style, "words", len(judged.words))
+            yield from self.word_differences(judged)
+            yield from self.walk_differences(judged)
+            yield from self.odd_walk_differences(judged)
+        yield from self.program_differences(judged)
 
     def differs(self, asked):
         """Whether anything disagrees, asked of a book on the side: nothing is counted."""
         aside = Comparison(self.rust, self.planner_class, self.program)
-        return any(True for _ in aside.differences(asked, Random(asked.data)))
+        return any(True for _ in aside.differences(aside.judged(asked, Random(asked.data))))
 
-    def word_differences(self, data, words):
+    def word_differences(self, judged):
         """The judge's words against the Rust's, and against themselves read back."""
+        if bytes_of(judged.book) != judged.asked.data:
+            yield "writing what was read gives other bytes"
+        words = judged.words
         try:
-            theirs = self.rust.plan(data)
+            theirs = self.rust.plan(judged.asked.data)
         except Panicked as panic:
             yield f"the Rust {panic}"
             return
@@ -100,36 +123,30 @@ class Comparison:
         if block_words(tree_of(words)) != words:
             yield "the judge's words read back give others"
 
-    def walk_differences(self, style, book, words, rng):
-        for _ in range(READINGS_A_BOOK):
-            reading = made.some_reading(book, rng)
-            answer = walk(words, reading)
-            self.count_reading(style, answer)
-            if not answer_is_right(book, reading, answer):
+    def walk_differences(self, judged):
+        """Readings of every site: the rules themselves and the Rust's walk."""
+        for reading, answer in judged.walks[:READINGS_A_BOOK]:
+            self.count_reading(judged.asked.style, answer)
+            if not answer_is_right(judged.book, reading, answer):
                 yield f"a walk gives {answer}, the rules say otherwise"
             theirs = self.rust.walk(reading)
             if theirs != answer:
                 yield f"the Rust's walk gives {theirs}, the judge's {answer}"
-        yield from self.odd_reading_differences(style, book, words, rng)
 
-    def odd_reading_differences(self, style, book, words, rng):
+    def odd_walk_differences(self, judged):
         """Readings of other lengths: nothing but 10 and 12 sets them apart."""
-        reading = made.some_reading(book, rng)
-        answer = walk(words, reading)
-        odd = [(made.longer(reading, rng), [answer]),
-               (made.shorter(reading, rng), [answer, ("refused", 12)]),
-               (made.lopsided(reading, rng), [("refused", 10)])]
-        for other, allowed in odd:
-            got = walk(words, other)
-            self.count_reading(style, got)
-            if got not in allowed:
-                yield f"a reading of {list(map(len, other))} for {len(book.sites)} gives {got}"
+        answer = judged.walks[READINGS_A_BOOK - 1][1]
+        allowed = ([answer], [answer, ("refused", 12)], [("refused", 10)])
+        for (reading, got), right in zip(judged.walks[READINGS_A_BOOK:], allowed):
+            self.count_reading(judged.asked.style, got)
+            if got not in right:
+                yield f"a reading of {list(map(len, reading))} for {len(judged.book.sites)} gives {got}"
 
-    def program_differences(self, data, answer, words):
+    def program_differences(self, judged):
         if self.program is not None:
-            printed = planner_differs(self.program, data, answer, words)
+            printed = planner_differs(self.program, judged.asked.data, judged.answer, judged.words)
             if printed is not None:
-                yield f"the planner prints {printed[:60]!r}, the judge has {answer}"
+                yield f"the planner prints {printed[:60]!r}, the judge has {judged.answer}"
 
     def set_differences(self, rng):
         """A sequence of set calls, the judge against the Rust; refused calls are the judge's own."""
@@ -176,20 +193,38 @@ def judge_sets(calls):
     return answers, store
 
 
-def case_of(asked, rng, name=""):
-    """The book as a case for `replay`, in a room of some length, with the judge's answers."""
-    answer, whole = plan(asked.data, fresh_room(ROOM_WORDS))
-    fits = answer[1] if answer[0] == "words" else 0
-    length = min(ROOM_WORDS, rng.choice((fits, fits, fits + 7, max(0, fits - 1), rng.randrange(64))))
-    answer, room = plan(asked.data, fresh_room(length))
-    readings = some_readings(asked, answer, rng)
-    return Case(name, asked.data, length, answer, room, [(r, walk(room, r)) for r in readings])
+def replay_cases(judged):
+    """The book as cases for `replay`: in rooms of every sort, and its words changed."""
+    rng = Random(judged.asked.data)
+    if judged.refused is not None:
+        room = fresh_room(rng.randrange(64))
+        return [Case("", judged.asked.data, judged.answer, room, walked(room, [SOME_READING]))]
+    count = len(judged.words)
+    readings = [reading for reading, _ in judged.walks]
+    if count > ROOM_WORDS:
+        return [room_case(judged, length, readings[:1]) for length in (ROOM_WORDS, 0)]
+    return [
+        room_case(judged, count, readings), room_case(judged, count - 1, readings[:1]),
+        room_case(judged, 0, readings[-1:]), room_case(judged, min(count + 7, ROOM_WORDS), readings[1:2]),
+        *(changed_case(judged, readings, rng) for _ in range(CHANGES_A_BOOK)),
+    ]
 
 
-def some_readings(asked, answer, rng):
-    if answer[0] == "refused" and answer[1] != 9:
-        return [made.Reading((0,), (0,), (0,))]
-    book = book_of(asked.data)
-    usual = [made.some_reading(book, rng) for _ in range(3)]
-    return usual + [made.longer(usual[0], rng), made.shorter(usual[1], rng),
-                    made.lopsided(usual[2], rng)]
+def room_case(judged, length, readings):
+    """The book in a room of so many words."""
+    if length < len(judged.words):
+        answer, room = ("refused", 9), [0] * length
+    else:
+        answer, room = judged.answer, judged.words + fresh_room(length - len(judged.words))
+    return Case("", judged.asked.data, answer, room, walked(room, readings))
+
+
+def changed_case(judged, readings, rng):
+    """One of the tree's words changed, and no book: a usual reading and the longer one."""
+    words = some_damage(judged.words, rng)
+    return Case("", None, None, words, walked(words, [rng.choice(readings), readings[READINGS_A_BOOK]]))
+
+
+def walked(words, readings):
+    """The readings with the judge's answers."""
+    return [(reading, walk(words, reading)) for reading in readings]

@@ -7,7 +7,6 @@ next line, `refused N` or `too long`; `replay` takes a case file and ends with
 """
 
 import os
-import re
 import shlex
 import subprocess
 import tempfile
@@ -48,11 +47,15 @@ def planner_differs(planner, data, answer, words):
 
 def replay_differs(replay, cases):
     """What `replay` printed of these cases, or None if all of them agree."""
-    with tempfile.NamedTemporaryFile(suffix=".case") as listed:
-        listed.write(file_bytes(cases))
-        listed.flush()
-        done = subprocess.run([*replay, listed.name], stdout=subprocess.PIPE)
-    printed = done.stdout.decode(errors="replace").rstrip("\n")
     readings = sum(len(case.readings) for case in cases)
-    agreed = f"cases {len(cases)} readings {readings} differ 0"
-    return None if re.sub(r"(?s).*\n", "", printed) == agreed else printed
+    return printed_differs(replay, file_bytes(cases), f"cases {len(cases)} readings {readings} differ 0")
+
+
+def printed_differs(replay, raw, wanted):
+    """What `replay` printed of a case file, or None if it is the one line that is wanted."""
+    with tempfile.NamedTemporaryFile(suffix=".case") as listed:
+        listed.write(raw)
+        listed.flush()
+        done = subprocess.run([*replay, listed.name], stdout=subprocess.PIPE, stderr=subprocess.PIPE)
+    printed = done.stdout.decode(errors="replace").rstrip("\n")
+    return None if printed == wanted else printed

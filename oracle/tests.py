@@ -9,13 +9,14 @@ from random import Random
 
 import programs
 from books import readings as made
+from books.given import nested, one_arm, one_step
 from books.refused import every_fault, two_faults
 from books.styles import MAKERS
 from books.worked import B, D, I, J_ANSWERS, J_CALLS, WORKED
 from books.write import bytes_of, mended
 from caselists import RICH
-from casefile import cases_of, file_bytes
-from comparison import asked_book, case_of, judge_sets
+from casefile import Case, cases_of, file_bytes
+from comparison import Comparison, asked_book, judge_sets, replay_cases
 from faults import FAULTS
 from judge import sets
 from judge.book import book_of, refusal
@@ -25,6 +26,7 @@ from judge.words import NoTree, block_words, plan, tree_of
 from shrink import smallest
 
 HERE = Path(__file__).parent
+LISTS = HERE.parent / "crates" / "replay" / "data"
 NO_SITES = Reading((), (), ())
 ONE_SITE = Reading((0,), (0,), (0,))
 TWO_SITES = Reading((0, 0), (0, 0), (1, 1))
@@ -147,22 +149,6 @@ class WordsThatAreNoTree(unittest.TestCase):
                 self.assertEqual(again, other[:len(again)])
 
 
-def one_step(*words):
-    """A root block of one step, its length word made right."""
-    return [1 + len(words), 1, *words]
-
-
-def one_arm(kind, fields, number, places=None):
-    """A root block that matches site 0 against one pattern and does nothing then."""
-    places = [65535] * min(fields, 9) if places is None else places
-    return one_step(0, 0, 0, 1, kind, fields, number, *places, 1, 0)
-
-
-def nested(depth):
-    """Equal steps one inside the other."""
-    return [1, 0] if depth == 0 else one_step(0, 1, 0, 1, *nested(depth - 1))
-
-
 class Walks(unittest.TestCase):
     def test_10_before_11_before_12(self):
         words = words_of(D)
@@ -235,33 +221,67 @@ class Makers(unittest.TestCase):
 
 class CaseFiles(unittest.TestCase):
     def test_what_is_written_is_read(self):
-        cases = [case_of(asked_book("cases", k), Random(k)) for k in range(20)]
+        cases = [case for k in range(20) for case in some_cases(k)]
         self.assertEqual(cases_of(file_bytes(cases)), [
             case._replace(name=f"case {k}") for k, case in enumerate(cases)])
 
     def test_the_checked_in_lists_are_as_the_judge_says(self):
         replay = [sys.executable, str(HERE / "replay")]
-        for path in sorted((HERE / "lists").glob("*.case")):
+        for path in sorted(LISTS.glob("*.case")):
             self.assertIsNone(programs.replay_differs(replay, cases_of(path.read_bytes())))
 
     def test_the_checked_in_lists_cover_every_answer(self):
-        cases = [case for path in (HERE / "lists").glob("*.case") for case in cases_of(path.read_bytes())]
-        refused = {case.answer[1] for case in cases if case.answer[0] == "refused"}
+        cases = [case for path in LISTS.glob("*.case") for case in cases_of(path.read_bytes())]
+        answers = [case.answer for case in cases if case.data is not None]
+        refused = {answer[1] for answer in answers if answer[0] == "refused"}
         walked = {answer[:1] + answer[1:2] * (answer[0] == "refused")
                   for case in cases for _, answer in case.readings}
         self.assertEqual(refused, set(range(1, 10)))
         self.assertEqual(walked, {("found",), ("nothing",), ("refused", 10), ("refused", 11), ("refused", 12)})
 
     def test_every_case_has_a_name(self):
-        for path in (HERE / "lists").glob("*.case"):
+        for path in LISTS.glob("*.case"):
             names = path.with_suffix(".txt").read_text().splitlines()
             self.assertEqual(len(names), len(cases_of(path.read_bytes())))
             self.assertEqual(len({name.split(" ", 1)[1] for name in names}), len(names), path)
 
-    def test_a_wrong_answer_is_seen(self):
-        case = case_of(asked_book("cases", 0), Random(0))
-        replay = [sys.executable, str(HERE / "replay")]
-        self.assertIsNotNone(programs.replay_differs(replay, [case._replace(answer=("words", 1))]))
+    def test_a_wrong_word_a_wrong_room_and_a_wrong_walk_are_seen(self):
+        planned = [case for case in some_cases(0) if case.data is not None]
+        right = next(case for case in planned if case.answer == ("words", len(case.room) - 7))
+        reading, answer = right.readings[0]
+        self.assertNotEqual(answer, ("nothing",))
+        words, count = right.room, right.answer[1]
+        wrong = {
+            "another answer": right._replace(answer=("words", count + 1)),
+            "a refusal": right._replace(answer=("refused", 9)),
+            "a word of the tree": right._replace(room=words[:3] + [words[3] + 1] + words[4:]),
+            "a word behind the tree": right._replace(room=words[:-1] + [0]),
+            "a walk": right._replace(readings=[(reading, ("nothing",))]),
+            "a walk of given words": Case("", None, None, words, [(reading, ("refused", 11))]),
+        }
+        for replay in replays():
+            self.assertIsNone(programs.replay_differs(replay, [right]))
+            for name, case in wrong.items():
+                self.assertIsNotNone(programs.replay_differs(replay, [right, case, right]), (name, replay))
+
+    def test_a_cut_file_agrees_with_nothing(self):
+        cases = some_cases(0)
+        raw = file_bytes(cases)
+        agreed = f"cases {len(cases)} readings {sum(len(case.readings) for case in cases)} differ 0"
+        for replay in replays():
+            self.assertIsNone(programs.printed_differs(replay, raw, agreed))
+            for end in (0, 3, 12, 13, 600, len(raw) - 1):
+                self.assertIsNotNone(programs.printed_differs(replay, raw[:end], agreed))
+
+
+def some_cases(number):
+    return replay_cases(Comparison(None).judged(asked_book("cases", number), Random(number)))
+
+
+def replays():
+    """The judge's replay, and the command that REPLAY names; one that was built earlier is not asked."""
+    named = programs.command("REPLAY", "replay") if "REPLAY" in os.environ else None
+    return [[sys.executable, str(HERE / "replay")]] + ([named] if named else [])
 
 
 class Programs(unittest.TestCase):

@@ -2,10 +2,10 @@
 
 from typing import NamedTuple
 
-from judge.book import BLOCK_BYTES, CHECK_START, RULE_BYTES
+from judge.book import BLOCK_BYTES, CHECK_START, RULE_BLOCK, RULE_BYTES
 
 from . import planted, planted_tables
-from .write import bytes_of, mended
+from .write import block, bytes_of, mended
 
 
 class Refused(NamedTuple):
@@ -97,8 +97,16 @@ def byte_changed_mended(book, rng):
     return Refused(f"byte {at} is {new}", None, mended(data[:at] + bytes([new]) + data[at + 1:]))
 
 
+def many_blocks(book, rng):
+    """Blocks behind the last one, up to about as many as the program reads."""
+    data = bytes_of(book)
+    count = rng.choice((127, 128, 129))
+    more = (block(number, RULE_BLOCK, 0, b"") for number in range(len(data) // BLOCK_BYTES, count))
+    return Refused(f"{count} blocks", 3, data + b"".join(more))
+
+
 # Ways to spoil a book, by name.
 SPOILERS = {
     "one-fault": one_fault, "two-faults": two_faults, "byte-changed": byte_changed,
-    "byte-changed-mended": byte_changed_mended,
+    "byte-changed-mended": byte_changed_mended, "many-blocks": many_blocks,
 }
