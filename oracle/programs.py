@@ -52,10 +52,12 @@ def replay_differs(replay, cases):
 
 
 def printed_differs(replay, raw, wanted):
-    """What `replay` printed of a case file, or None if it is the one line that is wanted."""
+    """What `replay` printed of a case file, or None if it is the one line that is wanted, and it ended well."""
     with tempfile.NamedTemporaryFile(suffix=".case") as listed:
         listed.write(raw)
         listed.flush()
         done = subprocess.run([*replay, listed.name], stdout=subprocess.PIPE, stderr=subprocess.PIPE)
     printed = done.stdout.decode(errors="replace").rstrip("\n")
+    if done.returncode != 0:
+        return f"{printed}\nended with {done.returncode}: {done.stderr.decode(errors='replace')[:500]}"
     return None if printed == wanted else printed
