@@ -12,4 +12,5 @@ pub mod Read
 pub mod Walk
 pub mod Bound
 pub mod Sets
+pub mod Listing
 pub mod Answers

@@ -1,0 +1,2 @@
+-- Laws of what is written and of what is read.
+pub mod Writing

@@ -1,0 +1,2 @@
+// The listing of a tree.
+pub mod line;
