@@ -4,7 +4,7 @@ use mathlib.Core.List.{List, [], _∷_, _++_, append-nil}
 use Prim.Native.Nat.{ℕ, zero, suc, _+_, _-_, _/_, _%_, _^_, _<_, _≤_}
 use native.Mathlib.Omega.{arith}
 use native.Mathlib.Numerals.{add-one}
-use lib.ListN.{length, getD, set, take, length-set}
+use lib.ListN.{length, getD, set, take, replicate, length-set, length-replicate, drop-of-length-le}
 use lib.Seq.{take-suc, take-all, set-out, take-suc-set, length-take-le}
 use borrow.Author.Tests.{lt-ltb, le-ltb, eq-eqb, ne-eqb}
 use Rattle.definition.specs.Lists.{flat, if_then_else_}
@@ -14,8 +14,8 @@ use Rattle.definition.specs.Read.{place-of}
 use Rattle.definition.specs.Tables.{signed}
 use Rattle.laws.specs.Turns.{flat-append}
 use Rattle.room.specs.Wrote.{Wrote, Put}
-use Rattle.room.proofs.Written.{wrote-none, wrote-one, wrote-then, wrote-fits}
-use Rattle.listing.specs.Writes.{Writes, Indents, Spelled, Room, Deeper, numbers-of}
+use Rattle.room.proofs.Written.{wrote-none, wrote-one, wrote-then, wrote-fits, whole-fits}
+use Rattle.listing.specs.Writes.{Writes, Indents, Spelled, Room, Deeper, numbers-of, places-head}
 use Rattle.listing.specs.declared.line.Path.{Path}
 
 pub writes-none : (l : List ℕ) (at : ℕ) → Writes l at [] at l
@@ -166,3 +166,24 @@ module _ (z : ℤ) where
   pub variant-is : (k : ℕ) → k ≡ 2 → text "Variant " ++ signed-decimal z ≡ kind-text k z
   unfolding kind-text
   variant-is k e = rw e
+
+-- before the places
+pub head-none : (n : ℕ) → n ≡ 0 → [] ≡ places-head n
+head-none n e = rw e
+
+pub head-some : (n : ℕ) → (n ≡ 0 → ⊥) → text " places" ≡ places-head n
+head-some n e = rw (ne-eqb n 0 e)
+
+-- ALL ZERO
+abbrev pub nought : ℕ → List ℕ
+nought b = 0 ∷ []
+
+zeros : (l : List ℕ) → flat nought l ≡ replicate (length l) 0
+zeros [] = refl
+zeros (x ∷ l) = ap (λ t. 0 ∷ t) (zeros l)
+
+pub zeroed : {k : ℕ} {l m : List ℕ} → Each nought l k l 0 k m → length l ≤ k → m ≡ replicate (length l) 0
+zeroed {k} {l} {m} e h =
+    let w : Wrote l 0 (replicate (length l) 0) k m = writes-as (e .wrote) (ap (flat nought) (take-all k l h) ∙ zeros l) .is (omega arith) in
+    let n = length-replicate {A = ℕ} (length l) 0 in
+    whole-fits w (omega (arith, n)) .1 ∙ ap (λ t. replicate (length l) 0 ++ t) (drop-of-length-le l {i = length (replicate (length l) 0)} (omega (arith, n))) ∙ append-nil (replicate (length l) 0)

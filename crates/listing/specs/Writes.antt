@@ -3,7 +3,10 @@ use mathlib.Core.Path.{_≡_}
 use mathlib.Core.List.{List, [], _∷_, _++_}
 use Prim.Native.Nat.{ℕ, suc, _+_, _^_, _≤_, _<_}
 use lib.ListN.{length, take}
-use Rattle.definition.specs.Listing.{digits, indent}
+use Rattle.definition.specs.Listing.{text, digits, indent, start, kind-text}
+use Rattle.definition.specs.Lists.{if_then_else_}
+use lib.Dec.{eqb}
+use lib.IntN.{ℤ}
 use Rattle.room.specs.Wrote.{Wrote}
 use Rattle.listing.specs.declared.line.Path.{Path}
 
@@ -32,3 +35,10 @@ pub record Room (p : Path) (n : ℕ) : Type 0 where
 pub record Deeper (p : Path) (i : ℕ) (q : Path) : Type 0 where
   pub numbers : numbers-of q ≡ numbers-of p ++ (i ∷ [])
   pub room : (n : ℕ) → Room p (suc n) → Room q n
+
+-- what stands before n places, and before the places of an arm's line
+abbrev pub places-head : ℕ → List ℕ
+places-head n = if eqb n 0 then [] else text " places"
+
+abbrev pub arm-head : List ℕ → ℕ → ℕ → ℤ → List ℕ
+arm-head p i k z = start p i ++ text "is " ++ kind-text k z

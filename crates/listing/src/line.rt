@@ -4,7 +4,7 @@ ghost use mathlib.Core.List.{_++_, _∷_, []};
 ghost use Rattle.definition.specs.Tables.{signed};
 ghost use Rattle.definition.specs.Read.{place-of};
 ghost use Rattle.definition.specs.Listing.{decimal, sign, magnitude as size-of, signed-decimal, degrees, kind-text, place-text, points, start, let-line, match-line, equal-line, return-line};
-ghost use Rattle.listing.specs.Writes.{Writes, Indents, Spelled, Room, Deeper, numbers-of};
+ghost use Rattle.listing.specs.Writes.{Writes, Indents, Spelled, Room, Deeper, numbers-of, places-head, arm-head};
 
 // The numbers of the steps and arms that something stands in, the outermost first; two for each of 9 blocks.
 pub struct Path {
@@ -156,6 +156,16 @@ pub fn put_place(w: u32, text: &mut [u8], at: usize) -> usize
     put_field(b" ", w, text, at)
 }
 
+// What stands before n places: nothing, where there is none.
+pub fn put_places(n: usize, text: &mut [u8], at: usize) -> usize
+    ensures { λ r. ⌜ Writes (now (text .entry)) at (places-head n) r (now (text .exit)) ⌝ }
+{
+    if n == 0 {
+        return at;
+    }
+    put_text(b" places", text, at)
+}
+
 // Two spaces for each number of a path.
 fn put_indent(depth: usize, text: &mut [u8], at: usize) -> usize
     ensures { λ r. ⌜ Indents depth (now (text .entry)) at r (now (text .exit)) ⌝ }
@@ -215,6 +225,16 @@ pub fn put_match(path: Path, i: u32, s: u32, text: &mut [u8], at: usize) -> usiz
     let first = put_start(path, i, text, at);
     let second = put_field(b"match site ", s, text, first);
     put_byte(b'\n', text, second)
+}
+
+// Internal: the line of an arm, up to its places.
+pub fn put_arm(path: Path, i: u32, kind: u32, w: u32, text: &mut [u8], at: usize) -> usize
+    requires { ⌜ Room path 0 ⌝ }
+    ensures { λ r. ⌜ Writes (now (text .entry)) at (arm-head (numbers-of path) i kind (signed w)) r (now (text .exit)) ⌝ }
+{
+    let first = put_start(path, i, text, at);
+    let second = put_text(b"is ", text, first);
+    put_kind(kind, w, text, second)
 }
 
 // Internal: the line of an Equal.
