@@ -5,3 +5,4 @@ pub mod Reading
 pub mod Parts
 pub mod Turns
 pub mod Whole
+pub mod Callers
