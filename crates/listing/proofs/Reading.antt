@@ -10,7 +10,7 @@ use lib.Dec.{leb, leb·suc-suc}
 use lib.ListN.{length, getD, take, drop, length-drop}
 use lib.Seq.{take-suc, getD-drop, length-take-le}
 use borrow.Author.Tests.{lt-ltb, le-ltb, eq-eqb, ne-eqb}
-use Rattle.definition.specs.Lists.{all, flat, if_then_else_}
+use Rattle.definition.specs.Lists.{all, flat}
 use Rattle.definition.specs.Accept.{pattern-ok}
 use Rattle.definition.specs.Tables.{signed}
 use Rattle.definition.specs.Read.{_>>=_, guarded, numbers, id-ok, place-ok, place-of, read-lets, read-places, read-pattern}
@@ -21,7 +21,7 @@ use Rattle.laws.specs.Turns.{all-append, all-map}
 use Rattle.listing.specs.declared.Seen.{Seen}
 use Rattle.listing.specs.Writes.{Writes, places-head, arm-head}
 use Rattle.listing.specs.Ends.{Good, Ends, ends, pattern-at, pattern-text}
-use Rattle.listing.proofs.Writing.{Each, each-starts, each-turn, each-ends, writes-then, writes-as}
+use Rattle.listing.proofs.Writing.{Each, each-starts, each-turn, writes-then, writes-as}
 
 -- WHAT A CALLEE TOLD
 module _ {A : Type 0} {text : A → List ℕ} {o : Option (A × List ℕ)} {w l : List ℕ} {at : ℕ} {r : Seen} {m : List ℕ} where

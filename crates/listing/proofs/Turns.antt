@@ -6,7 +6,7 @@ use Prim.Native.Nat.{ℕ, suc, _+_, _-_, _<_, _≤_}
 use native.Mathlib.Omega.{arith}
 use lib.ListN.{length, getD, drop, length-drop}
 use lib.Seq.{drop-drop}
-use Rattle.definition.specs.Tree.{Block, Flow, Arms, end, step, match, no-arms, arm}
+use Rattle.definition.specs.Tree.{Block, end, step, match, no-arms, arm}
 use Rattle.definition.specs.Read.{Reader, read-arm, read-arms, read-flow, read-step, read-steps, read-counted}
 use Rattle.definition.specs.Listing.{match-line, steps-text, flow-text, arms-text}
 use Rattle.listing.specs.Writes.{Writes}

@@ -1,18 +1,17 @@
 -- The public call, from what `block` tells of the words.
-use mathlib.Core.Path.{_≡_, refl, sym, ap, subst, _∙_}
+use mathlib.Core.Path.{_≡_, refl, sym, ap, _∙_}
 use mathlib.Core.Bool.{true, false, true≢false}
-use mathlib.Core.List.{List, [], _++_}
+use mathlib.Core.List.{List, []}
 use mathlib.Core.Option.{Option, none, some}
 use Prim.Native.Nat.{ℕ, _<_, _≤_}
 use native.Mathlib.Omega.{arith}
-use lib.ListN.{length, replicate, take}
+use lib.ListN.{length, replicate}
 use borrow.Author.Tests.{lt-leb, le-leb}
-use Rattle.definition.specs.Tree.{Block}
 use Rattle.definition.specs.Read.{read-block}
 use Rattle.definition.specs.Listing.{listing, steps-text}
-use Rattle.definition.specs.Answers.{Outcome, answered, refused, written, list-read, listed}
+use Rattle.definition.specs.Answers.{written, list-read, listed}
 use Rattle.room.specs.Wrote.{Wrote}
-use Rattle.room.proofs.Written.{whole-fits, whole-short}
+use Rattle.room.proofs.Written.{whole-fits}
 use Rattle.listing.specs.declared.Listed.{Listed}
 use Rattle.listing.specs.declared.line.Path.{Path}
 use Rattle.listing.specs.Writes.{numbers-of}

@@ -7,13 +7,13 @@ use native.Mathlib.Numerals.{add-one}
 use lib.ListN.{length, getD, set, take, replicate, length-set, length-replicate, drop-of-length-le}
 use lib.Seq.{take-suc, take-all, set-out, take-suc-set, length-take-le}
 use borrow.Author.Tests.{lt-ltb, le-ltb, eq-eqb, ne-eqb}
-use Rattle.definition.specs.Lists.{flat, if_then_else_}
+use Rattle.definition.specs.Lists.{flat}
 use lib.IntN.{ℤ}
 use Rattle.definition.specs.Listing.{text, digits, decimal, field, sign, magnitude, signed-decimal, degrees, kind-text, place-text, indent, points, start, let-line, match-line, equal-line, return-line}
 use Rattle.definition.specs.Read.{place-of}
 use Rattle.definition.specs.Tables.{signed}
 use Rattle.laws.specs.Turns.{flat-append}
-use Rattle.room.specs.Wrote.{Wrote, Put}
+use Rattle.room.specs.Wrote.{Wrote}
 use Rattle.room.proofs.Written.{wrote-none, wrote-one, wrote-then, wrote-fits, whole-fits}
 use Rattle.listing.specs.Writes.{Writes, Indents, Spelled, Room, Deeper, numbers-of, places-head}
 use Rattle.listing.specs.declared.line.Path.{Path}

@@ -1,11 +1,10 @@
 // The listing of a tree, for people. The words are not trusted: every one of the root block is looked at, and the text is
 // written on the same way.
-pub mod line;
+mod line;
 
 use line::Path;
 ghost use mathlib.Core.Path.{_≡_};
-ghost use mathlib.Core.List.{List};
-ghost use Prim.Native.Nat.{ℕ, _+_, _*_, _≤_};
+ghost use Prim.Native.Nat.{_+_, _*_, _≤_};
 ghost use lib.ListN.{length, drop, replicate};
 ghost use Rattle.definition.specs.Lists.{flat};
 ghost use Rattle.definition.specs.Accept.{pattern-ok};
@@ -17,10 +16,8 @@ ghost use Rattle.listing.specs.Writes.{Room, numbers-of};
 ghost use Rattle.listing.specs.Ends.{Ends, Returns, Leaves, is-some, step-text, pattern-text, arm-text, pattern-at};
 ghost use Rattle.listing.specs.Determined.{list-determined};
 
-// The greatest id of a site or a rule; an empty place; how many blocks stand one inside another at most.
+// The greatest id of a site or a rule; how many blocks stand one inside another at most.
 const LAST: u32 = 251;
-
-const EMPTY: u32 = 65535;
 
 const DEPTH: usize = 9;
 
@@ -57,10 +54,11 @@ fn pattern_ok(kind: u32, fields: u32, number: u32) -> bool
     }
 }
 
+// A place names a site or is empty.
 fn place_ok(w: u32) -> bool
     ensures { λ r. ⌜ r ≡ place-fine (place-of w) ⌝ }
 {
-    if w == EMPTY { true } else { w <= LAST }
+    if w == line::EMPTY { true } else { w <= LAST }
 }
 
 // A count, and as many ids: a line each.
@@ -88,7 +86,7 @@ fn lets(w: &[u32], path: Path, text: &mut [u8], at: usize) -> Seen
     Seen::Tree(n + 1, pos)
 }
 
-// A site or 65535 at each of n positions.
+// A site or an empty place at each of n positions.
 fn places(w: &[u32], count: u32, text: &mut [u8], at: usize) -> Seen
     ensures { λ r. ⌜ Ends places-text (read-places count (now (w .entry))) (now (w .entry)) (now (text .entry)) at r (now (text .exit)) ⌝ }
 {

@@ -1,10 +1,13 @@
-// Bytes, numbers and lines, written into lent text one behind the other until it is full. A number behind a line's name says what it is.
+// Bytes, numbers and lines, written into lent text one behind the other until it is full.
 ghost use mathlib.Core.Path.{_≡_};
 ghost use mathlib.Core.List.{_++_, _∷_, []};
 ghost use Rattle.definition.specs.Tables.{signed};
 ghost use Rattle.definition.specs.Read.{place-of};
 ghost use Rattle.definition.specs.Listing.{decimal, sign, magnitude as size-of, signed-decimal, degrees, kind-text, place-text, points, start, let-line, match-line, equal-line, return-line};
 ghost use Rattle.listing.specs.Writes.{Writes, Indents, Spelled, Room, Deeper, numbers-of, places-head, arm-head};
+
+// The word of an empty place.
+pub const EMPTY: u32 = 65535;
 
 // The numbers of the steps and arms that something stands in, the outermost first; two for each of 9 blocks.
 pub struct Path {
@@ -146,11 +149,11 @@ pub fn put_kind(kind: u32, w: u32, text: &mut [u8], at: usize) -> usize
     put_text(b"Some", text, at)
 }
 
-// A place names a site, or is empty and has the word 65535.
+// A place names a site or is empty.
 pub fn put_place(w: u32, text: &mut [u8], at: usize) -> usize
     ensures { λ r. ⌜ Writes (now (text .entry)) at (place-text (place-of w)) r (now (text .exit)) ⌝ }
 {
-    if w == 65535 {
+    if w == EMPTY {
         return put_text(b" empty", text, at);
     }
     put_field(b" ", w, text, at)

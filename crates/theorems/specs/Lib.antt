@@ -25,3 +25,4 @@ pub mod Refusals
 pub mod Demands
 pub mod Proved
 pub mod BytesToAnswer
+pub mod Decimal

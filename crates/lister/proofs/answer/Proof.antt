@@ -1,3 +1,4 @@
+-- `answer` meets its contract: as many words as `plan` tells stand in the room.
 use mathlib.Core.Path.{sym}
 use lib.Seq.{length-take-le}
 use Rattle.plan.proofs.Callers.{words-inside}

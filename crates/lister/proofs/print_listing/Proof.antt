@@ -1,3 +1,4 @@
+-- `print_listing` meets its contract: as many bytes as `list` tells stand in the text.
 use mathlib.Core.Path.{sym}
 use lib.Seq.{length-take-le}
 use Rattle.listing.proofs.Callers.{bytes-inside}

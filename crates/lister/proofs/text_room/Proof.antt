@@ -1,3 +1,4 @@
+-- `text_room` meets its contract: it has as many bytes as it says.
 use mathlib.Core.Path.{sym}
 use Prim.Native.Nat.{ℕ}
 use lib.ListN.{length-replicate}

@@ -1,6 +1,7 @@
+-- The functions that read and write a tree call each other, with fewer blocks left at each block. What each reads and writes follows from its parts (Parts, Turns).
 use mathlib.Core.Path.{_≡_}
 use mathlib.Core.List.{List, [], _∷_, _++_}
-use Prim.Native.Nat.{ℕ, suc, _<_, _+_, _*_, _-_}
+use Prim.Native.Nat.{ℕ, _<_, _+_, _*_, _-_}
 use native.Mathlib.Omega.{arith}
 use lib.ListN.{length, length-drop}
 use borrow.Author.Needs.{needs}
@@ -11,7 +12,6 @@ use Rattle.listing.proofs.Writing.{room-less}
 use Rattle.listing.proofs.Reading.{tail, told-none, told-good, sum-within}
 use Rattle.listing.proofs.Parts.{arm-none, arm-stops, arm-good, step-none, step-stops, step-good, flow-short, flow-other, flow-is, pair-order, pair-high, pair-none, pair-good, block-deep, block-empty, block-long, counted-part, block-none, block-left, block-good}
 use Rattle.listing.proofs.Turns.{Steps, steps-empty, steps-begin, steps-stop, steps-turn, steps-done, ArmsAt, arms-bad, arms-begin, arms-fail, arms-turn, arms-done}
-use Prim.Native.Nat.{ℕ, _<_}
 use borrow.Fn.Kinds.{In}
 use borrow.Fn.PlainCycle.{Measures, is, falls, and}
 use Rattle.listing.proofs.arm.Reads as arm

@@ -1,8 +1,9 @@
+-- `clear` meets its contract: every byte becomes zero.
 use Rattle.listing.proofs.Writing.{Each, nought, each-starts, each-turn, writes-set, zeroed}
 use borrow.Author.Needs.{needs}
 use native.Mathlib.Omega.{arith}
 use mathlib.Core.Path.{_≡_}
-use Prim.Native.Nat.{_≤_, _-_}
+use Prim.Native.Nat.{_-_}
 use lib.ListN.{length}
 use Rattle.listing.proofs.clear.Statement.{statement}
 use Rattle.listing.proofs.clear.Tie as tie

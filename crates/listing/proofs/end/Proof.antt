@@ -1,3 +1,4 @@
+-- `end` meets its contract: four words, two of them ids, and the line of the Return.
 use native.Mathlib.Omega.{arith}
 use Rattle.listing.proofs.Parts.{return-short, return-rule, return-result, return-good}
 use borrow.Author.Needs.{needs}

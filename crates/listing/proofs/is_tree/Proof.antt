@@ -1,3 +1,4 @@
+-- `is_tree` meets its contract: `block` reads the words or not, wherever it writes.
 use Rattle.listing.proofs.Reading.{told-none, told-good}
 use Rattle.listing.proofs.Whole.{some-read, none-read}
 use borrow.Author.Needs.{needs}

@@ -1,3 +1,4 @@
+-- `lets` meets its contract: the ids before i are read, and their lines are written.
 use borrow.Author.Needs.{needs}
 use native.Mathlib.Omega.{arith}
 use mathlib.Core.Path.{_≡_}

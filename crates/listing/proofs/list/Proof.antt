@@ -1,3 +1,4 @@
+-- `list` meets its contract: no tree, a text that fits, or one that is too long.
 use native.Mathlib.Omega.{arith}
 use borrow.Author.Tests.{not-true, not-false}
 use mathlib.Core.Path.{sym, _∙_}

@@ -1,3 +1,4 @@
+-- `pattern` meets its contract: three words, the places, and the line of the arm.
 use borrow.Author.Tests.{not-true, not-false}
 use native.Mathlib.Omega.{arith}
 use mathlib.Core.Path.{sym, _∙_}

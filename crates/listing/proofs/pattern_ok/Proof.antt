@@ -1,3 +1,4 @@
+-- `pattern_ok` meets its contract, kind by kind.
 use Rattle.listing.proofs.Patterns.{kind-low, kind-two, kind-three, kind-fields, kind-high}
 use Rattle.listing.proofs.pattern_ok.Statement.{statement}
 use Rattle.listing.proofs.pattern_ok.Tie as tie

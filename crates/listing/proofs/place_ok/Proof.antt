@@ -1,3 +1,4 @@
+-- `place_ok` meets its contract: a place is empty, or an id.
 use Rattle.listing.proofs.Reading.{place-yes, place-is}
 use Rattle.listing.proofs.place_ok.Statement.{statement}
 use Rattle.listing.proofs.place_ok.Tie as tie

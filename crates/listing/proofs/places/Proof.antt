@@ -1,3 +1,4 @@
+-- `places` meets its contract: the places before i are read and written.
 use borrow.Author.Needs.{needs}
 use borrow.Author.Tests.{not-true, not-false}
 use native.Mathlib.Omega.{arith}

@@ -1,3 +1,4 @@
+-- `put_digits` meets its contract: the digits in front are those of a tenth of the number.
 use borrow.Author.Needs.{needs}
 use native.Mathlib.Omega.{arith}
 use Rattle.listing.proofs.Writing.{spelled-one, spelled-more}

@@ -1,3 +1,4 @@
+-- `deeper` meets its contract: the number stands behind the path's.
 use Rattle.listing.proofs.Writing.{path-more}
 use borrow.Author.Needs.{needs}
 use Rattle.listing.proofs.line.deeper.Statement.{statement}

@@ -1,3 +1,4 @@
+-- `magnitude` meets its contract: words of the upper half are negative.
 use Rattle.listing.proofs.Writing.{low-magnitude, high-magnitude}
 use borrow.Author.Needs.{needs}
 use Rattle.listing.proofs.line.magnitude.Statement.{statement}

@@ -1,3 +1,4 @@
+-- `put_byte` meets its contract: behind the end nothing is stored.
 use Rattle.listing.proofs.Writing.{writes-set, writes-full}
 use borrow.Author.Needs.{needs}
 use Rattle.listing.proofs.line.put_byte.Statement.{statement}

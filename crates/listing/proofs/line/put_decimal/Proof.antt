@@ -1,3 +1,4 @@
+-- `put_decimal` meets its contract: a number of 32 bits has at most ten digits.
 use native.Mathlib.Omega.{arith}
 use Rattle.listing.proofs.Writing.{spelled-decimal}
 use borrow.Author.Needs.{needs}

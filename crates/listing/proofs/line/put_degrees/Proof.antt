@@ -1,3 +1,4 @@
+-- `put_degrees` meets its contract: text behind text.
 use Rattle.listing.proofs.Writing.{writes-then, writes-as, degrees-is}
 use borrow.Author.Needs.{needs}
 use Rattle.listing.proofs.line.put_degrees.Statement.{statement}

@@ -1,3 +1,4 @@
+-- `put_equal` meets its contract: text behind text.
 use Rattle.listing.proofs.Writing.{writes-then, writes-as, equal-is}
 use borrow.Author.Needs.{needs}
 use Rattle.listing.proofs.line.put_equal.Statement.{statement}

@@ -1,8 +1,9 @@
+-- `put_indent` meets its contract: two spaces for each number before k.
 use borrow.Author.Needs.{needs}
 use native.Mathlib.Omega.{arith}
 use mathlib.Core.Path.{_≡_}
 use mathlib.Core.List.{List}
-use Prim.Native.Nat.{ℕ, _≤_, _<_, _-_}
+use Prim.Native.Nat.{ℕ, _≤_, _-_}
 use lib.ListN.{length}
 use Rattle.definition.specs.Listing.{text as quoted}
 use Rattle.listing.proofs.Writing.{Each, each-starts, each-turn, indents}

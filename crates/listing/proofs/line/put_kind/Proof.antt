@@ -1,3 +1,4 @@
+-- `put_kind` meets its contract, kind by kind.
 use mathlib.Core.Path.{sym, ap}
 use Rattle.definition.specs.Listing.{kind-text}
 use Rattle.definition.specs.Tables.{signed}

@@ -1,3 +1,4 @@
+-- `put_limit` meets its contract: text behind text.
 use Rattle.listing.proofs.Writing.{writes-then, writes-as, limit-is}
 use borrow.Author.Needs.{needs}
 use Rattle.listing.proofs.line.put_limit.Statement.{statement}

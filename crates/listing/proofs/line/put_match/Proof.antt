@@ -1,3 +1,4 @@
+-- `put_match` meets its contract: text behind text.
 use Rattle.listing.proofs.Writing.{writes-then, writes-as, match-is}
 use borrow.Author.Needs.{needs}
 use Rattle.listing.proofs.line.put_match.Statement.{statement}

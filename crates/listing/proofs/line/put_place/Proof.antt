@@ -1,3 +1,4 @@
+-- `put_place` meets its contract: an empty place, or a site.
 use Rattle.listing.proofs.Writing.{writes-as, place-empty, place-named}
 use borrow.Author.Needs.{needs}
 use Rattle.listing.proofs.line.put_place.Statement.{statement}

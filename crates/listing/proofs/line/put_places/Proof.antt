@@ -1,4 +1,4 @@
-use mathlib.Core.Path.{sym}
+-- `put_places` meets its contract: nothing where there are no places.
 use Rattle.listing.proofs.Writing.{writes-none, writes-as, head-none, head-some}
 use borrow.Author.Needs.{needs}
 use Rattle.listing.proofs.line.put_places.Statement.{statement}

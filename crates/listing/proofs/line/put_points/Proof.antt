@@ -1,3 +1,4 @@
+-- `put_points` meets its contract: each number before k, with a point.
 use borrow.Author.Needs.{needs}
 use native.Mathlib.Omega.{arith}
 use mathlib.Core.Path.{_≡_}

@@ -1,3 +1,4 @@
+-- `put_return` meets its contract: text behind text.
 use Rattle.listing.proofs.Writing.{writes-then, writes-as, return-is}
 use borrow.Author.Needs.{needs}
 use Rattle.listing.proofs.line.put_return.Statement.{statement}

@@ -1,3 +1,4 @@
+-- `put_sign` meets its contract: words of the upper half are negative.
 use Rattle.listing.proofs.Writing.{writes-none, writes-as, sign-none, sign-minus}
 use borrow.Author.Needs.{needs}
 use Rattle.listing.proofs.line.put_sign.Statement.{statement}

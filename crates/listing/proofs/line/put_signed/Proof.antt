@@ -1,3 +1,4 @@
+-- `put_signed` meets its contract: the sign, then the magnitude.
 use Rattle.listing.proofs.Writing.{writes-then, writes-as, signed-is}
 use borrow.Author.Needs.{needs}
 use Rattle.listing.proofs.line.put_signed.Statement.{statement}

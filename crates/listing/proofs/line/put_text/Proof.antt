@@ -1,3 +1,4 @@
+-- `put_text` meets its contract: the bytes before k are written.
 use borrow.Author.Needs.{needs}
 use native.Mathlib.Omega.{arith}
 use mathlib.Core.Path.{_≡_}
