@@ -26,3 +26,6 @@ pub mod Demands
 pub mod Proved
 pub mod BytesToAnswer
 pub mod Decimal
+pub mod Letters
+pub mod Shown
+pub mod FitsRead
