@@ -15,8 +15,7 @@ from books.styles import MAKERS
 from books.worked import B, E, H, WORKED
 from books.write import bytes_of
 from judge.book import (
-    ARGUMENT, BOUND_BY_PATTERN, EXPRESSION, IS_INT, IS_PRIM, IS_SOME, IS_VARIANT, Book, Constraint, Rule,
-    Site, refusal,
+    ARGUMENT, EXPRESSION, IS_INT, IS_PRIM, IS_SOME, IS_VARIANT, Book, Constraint, Rule, Site, refusal,
 )
 from judge.listing import degrees, listing, tree_of_listing
 from judge.plan import EMPTY, Arm, Equal, Match, Return, Step, tree
@@ -93,18 +92,21 @@ def sites(random, most):
 
 
 def deep_book():
-    """252 sites and 252 rules, each rule with four constraints and four pairs: a tree as deep as trees are, and long let lists."""
+    """252 sites, and 252 rules of eight tests each: as deep as trees are, with long let lists."""
     arguments = [Site(ARGUMENT)] * 12
     chain = [Site(EXPRESSION, (11 + k,)) for k in range(240)]
-    constraints = lambda k: tuple(Constraint(s, IS_INT, 0, -400 - k // 4**s % 4) for s in range(4))
     pairs = ((4, 5), (6, 7), (8, 9), (10, 11))
-    rules = [Rule(0, k, 251, constraints(k), pairs, (250, 251)) for k in range(252)]
+    rules = [Rule(k, k, 251, four_limits(k), pairs, (250, 251)) for k in range(252)]
     return Book(tuple(arguments + chain), tuple(rules))
+
+
+def four_limits(k):
+    return tuple(Constraint(site, IS_INT, 0, -400 - k) for site in range(4))
 
 
 def made_books(count):
     random = Random(SEED)
-    makers = list(MAKERS.values()) if isinstance(MAKERS, dict) else list(MAKERS)
+    makers = list(MAKERS.values())
     for k in range(count):
         book = makers[k % len(makers)](random)
         if refusal(bytes_of(book)) is None:

@@ -9,7 +9,7 @@ from judge.book import (
 
 from .write import bytes_of
 
-# The board's message is Variant 1 with tenths, or Variant 2 with whole degrees, which are worked out to tenths.
+# The board's message is Variant 1 with tenths, or Variant 2 with whole degrees, worked out to tenths.
 MESSAGE, TENTHS, WHOLE, FROM_WHOLE = 0, 1, 2, 3
 HEAT, SLOW, STOP, RUN = 4, 5, 6, 7
 FIRST_SENDER, SECOND_SENDER = 8, 9
@@ -39,8 +39,9 @@ OIL = Book(OIL_SITES, (
     Rule(0, 50, STOP),
 ))
 
-# The winter fault: rule 1, the special one on tenths, stands above rule 2, the general one on the board, and
-# rule 0 above both. Rules 0 and 2 ask the same site; a planner that takes both at once asks rule 2 before rule 1.
+# The winter fault: rule 1, the special one on tenths, stands above rule 2, the general one on the board,
+# and rule 0 above both. Rules 0 and 2 ask the same site; a planner that takes both at once asks rule 2
+# before rule 1.
 BOARD, OIL_TENTHS, GENERAL_RUN, SPECIAL_HEAT, ALARM_STOP = 0, 1, 2, 3, 4
 WINTER = Book(
     (Site(ARGUMENT), Site(ARGUMENT), Site(CONST_INT), Site(CONST_INT), Site(CONST_INT)),
