@@ -12,6 +12,7 @@ use Rattle.definition.specs.Plan.{tree}
 use Rattle.definition.specs.Tree.{Block, nesting, words}
 use Rattle.definition.specs.Read.{read-block}
 use Rattle.definition.specs.Walk.{Reading, Hit, walk, sites-in}
+use Rattle.definition.specs.Listing.{listing}
 use Rattle.definition.specs.Sets.{Sets, representative, in-same-set, merge, members, remove}
 
 -- a refusal by its number, or what was asked for
@@ -54,6 +55,15 @@ walk-read d (some r) = if covers d (r .0) then answered (walk d (r .0)) else ref
 
 unfoldable pub walked : List ℕ → Reading → Answer (Option Hit)
 walked ws d = if one-length d then walk-read d (read-block (suc nesting) ws) else refused 10
+
+-- LIST. The text of the tree goes to the front of the lent text as words go to a room: 9 where it does not fit.
+-- 11: the words are no tree, and the lent text is unchanged
+abbrev pub list-read : List ℕ → Option (Block × List ℕ) → Outcome
+list-read lent none = record { answer = refused 11; room = lent }
+list-read lent (some r) = written (listing (r .0)) lent
+
+unfoldable pub listed : List ℕ → List ℕ → Outcome
+listed ws lent = list-read lent (read-block (suc nesting) ws)
 
 -- SETS. 16: an id above 251, or `merge` with one id twice; the store is then as it came
 unfoldable pub known : ℕ → Bool

@@ -1,4 +1,4 @@
--- Document 01 as definitions, in its own order: the book, the refusals, states and let lists, how a block is made, tree words, walking, sets, answers.
+-- Document 01 as definitions, in its own order: the book, the refusals, states and let lists, how a block is made, tree words, walking, sets, the listing, answers.
 pub mod Lists
 pub mod Book
 pub mod Tables
@@ -12,4 +12,5 @@ pub mod Read
 pub mod Walk
 pub mod Bound
 pub mod Sets
+pub mod Listing
 pub mod Answers

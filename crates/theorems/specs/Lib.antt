@@ -25,3 +25,7 @@ pub mod Refusals
 pub mod Demands
 pub mod Proved
 pub mod BytesToAnswer
+pub mod Decimal
+pub mod Letters
+pub mod Shown
+pub mod FitsRead

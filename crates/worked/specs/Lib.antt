@@ -5,3 +5,4 @@ pub mod Calls
 pub mod Quick
 pub mod Compute
 pub mod Table
+pub mod Listings

@@ -1,0 +1,208 @@
+-- What is read of lets, places and patterns, and what of it is written.
+use mathlib.Core.Path.{_≡_, refl, sym, ap, subst, _∙_}
+use mathlib.Core.Bool.{Bool, true, false, _&&_}
+use mathlib.Core.List.{List, [], _∷_, _++_, map}
+use mathlib.Core.Option.{Option, none, some}
+use Prim.Native.Nat.{ℕ, zero, suc, _+_, _-_, _<_, _≤_}
+use native.Mathlib.Omega.{arith}
+use native.Mathlib.Numerals.{add-one}
+use lib.Dec.{leb, leb·suc-suc}
+use lib.ListN.{length, getD, take, drop, length-drop}
+use lib.Seq.{take-suc, getD-drop, length-take-le}
+use borrow.Author.Tests.{lt-ltb, le-ltb, eq-eqb, ne-eqb}
+use Rattle.definition.specs.Lists.{all, flat}
+use Rattle.definition.specs.Accept.{pattern-ok}
+use Rattle.definition.specs.Tables.{signed}
+use Rattle.definition.specs.Read.{_>>=_, guarded, numbers, id-ok, place-ok, place-of, read-lets, read-places, read-pattern}
+use Rattle.definition.specs.Listing.{text, let-line, arm-line, place-text, places-text}
+use Rattle.laws.specs.Lending.{tail-part}
+use Rattle.laws.specs.Tests.{and}
+use Rattle.laws.specs.Turns.{all-append, all-map}
+use Rattle.listing.specs.declared.Seen.{Seen}
+use Rattle.listing.specs.Writes.{Writes, places-head, arm-head}
+use Rattle.listing.specs.Ends.{Good, Ends, ends, pattern-at, pattern-text}
+use Rattle.listing.proofs.Writing.{Each, each-starts, each-turn, writes-then, writes-as}
+
+-- WHAT A CALLEE TOLD
+module _ {A : Type 0} {text : A → List ℕ} {o : Option (A × List ℕ)} {w l : List ℕ} {at : ℕ} {r : Seen} {m : List ℕ} where
+  pub told-none : Ends text o w l at r m → r ≡ Seen.NoTree → o ≡ none
+  told-none e q = subst (ends text o w l at m) q (e .is)
+
+  pub told-good : {n k : ℕ} → Ends text o w l at r m → r ≡ Seen.Tree n k → Good text o w l at n k m
+  told-good e q = subst (ends text o w l at m) q (e .is)
+
+-- what it told of a part that runs to the end
+pub tail : {A : Type 0} {text : A → List ℕ} {l : List ℕ} {at : ℕ} {r : Seen} {m : List ℕ} (read : List ℕ → Option (A × List ℕ)) (w : List ℕ) (n : ℕ)
+    → Ends text (read (take (length w - n) (drop n w))) (take (length w - n) (drop n w)) l at r m → Ends text (read (drop n w)) (drop n w) l at r m
+tail {A} {text} {l} {at} {r} {m} read w n e = subst (λ v. Ends text (read v) v l at r m) (tail-part w n) e
+
+pub sum-within : (w : List ℕ) (n m : ℕ) → n ≤ length w → m ≤ length (drop n w) → n + m ≤ length w
+sum-within w n m h k = omega (arith, length-drop n w)
+
+-- NUMBERS
+numbers-some : (n : ℕ) (l : List ℕ) → n ≤ length l → numbers n l ≡ some (take n l, drop n l)
+numbers-some zero l h = refl
+numbers-some (suc n) [] h = absurd (omega arith)
+numbers-some (suc n) (x ∷ l) h = rw (numbers-some n l (omega arith))
+
+numbers-none : (n : ℕ) (l : List ℕ) → length l < n → numbers n l ≡ none
+numbers-none zero l h = absurd (omega arith)
+numbers-none (suc n) [] h = refl
+numbers-none (suc n) (x ∷ l) h = rw (numbers-none n l (omega arith))
+
+all-bad : (q : ℕ → Bool) (l : List ℕ) (i n : ℕ) → i < n → i < length l → q (getD l i 0) ≡ false → all q (take n l) ≡ false
+all-bad q [] i n h k e = absurd (omega arith)
+all-bad q (x ∷ l) i zero h k e = absurd (omega arith)
+all-bad q (x ∷ l) zero (suc n) h k e = rw e
+all-bad q (x ∷ l) (suc i) (suc n) h k e = go (q x) (all-bad q l i n (omega arith) (omega arith) e)
+  where
+    go : (b : Bool) → all q (take n l) ≡ false → b && all q (take n l) ≡ false
+    go true g = g
+    go false g = refl
+
+pub id-yes : (x : ℕ) → x ≤ 251 → id-ok x ≡ true
+unfolding id-ok
+id-yes x h = lt-ltb x 252 (omega arith)
+
+pub id-no : (x : ℕ) → 251 < x → id-ok x ≡ false
+unfolding id-ok
+id-no x h = le-ltb x 252 (omega arith)
+
+-- A LOOP over words: the first i of them pass the test q, and f of each is written
+pub record Taken (q : ℕ → Bool) (f : ℕ → List ℕ) (s : List ℕ) (i : ℕ) (l : List ℕ) (at pos : ℕ) (m : List ℕ) : Type 0 where
+  pub pass : all q (take i s) ≡ true
+  pub each : Each f s i l at pos m
+
+pub taken-starts : (q : ℕ → Bool) (f : ℕ → List ℕ) (s l : List ℕ) (at : ℕ) → Taken q f s 0 l at at l
+taken-starts q f s l at = record { pass = refl; each = each-starts f s l at }
+
+pub taken-turn : {q : ℕ → Bool} {f : ℕ → List ℕ} {s : List ℕ} {i : ℕ} {l : List ℕ} {at pos : ℕ} {m : List ℕ} → Taken q f s i l at pos m → i < length s → q (getD s i 0) ≡ true
+    → {next : ℕ} {m′ : List ℕ} → Writes m pos (f (getD s i 0)) next m′ → Taken q f s (i + 1) l at next m′
+taken-turn {q} {f} {s} {i} t h e w = record { pass = ap (all q) more ∙ all-append q (take i s) (getD s i 0 ∷ []) ∙ and (t .pass) (and e refl); each = each-turn (t .each) h w }
+  where
+    more : take (i + 1) s ≡ take i s ++ (getD s i 0 ∷ [])
+    more = ap (λ j. take j s) (add-one i) ∙ take-suc s i 0 h
+
+-- LETS: w's first word counts the ids after it
+abbrev pub Lets : List ℕ → List ℕ → ℕ → List ℕ → ℕ → ℕ → List ℕ → Type 0
+Lets p w i l at pos m = Taken id-ok (let-line p) (drop 1 w) i l at pos m
+
+at-one : (w : List ℕ) (i : ℕ) → getD w (i + 1) 0 ≡ getD (drop 1 w) i 0
+at-one w i = let e : i + 1 ≡ 1 + i = omega arith in ap (λ k. getD w k 0) e ∙ sym (getD-drop 1 w i 0)
+
+pub lets-turn : (p w : List ℕ) {i : ℕ} {l : List ℕ} {at pos : ℕ} {m : List ℕ} → Lets p w i l at pos m → i + 1 < length w → getD w (i + 1) 0 ≤ 251
+    → {next : ℕ} {m′ : List ℕ} → Writes m pos (let-line p (getD w (i + 1) 0)) next m′ → Lets p w (i + 1) l at next m′
+lets-turn p w {i} t h k v = taken-turn t (simp length-drop (omega arith)) (id-yes _ (subst (λ x. x ≤ 251) (at-one w i) k)) (writes-as v (ap (let-line p) (at-one w i)))
+
+pub lets-empty : (w : List ℕ) → length w ≡ 0 → read-lets w ≡ none
+unfolding read-lets
+lets-empty [] h = refl
+lets-empty (x ∷ w) h = absurd (omega arith)
+
+pub lets-short : (w : List ℕ) (n : ℕ) → 0 < length w → n ≡ getD w 0 0 → length w ≤ n → read-lets w ≡ none
+unfolding read-lets
+lets-short [] n h e k = refl
+lets-short (x ∷ w) n h e k = rw (numbers-none x w (omega arith))
+
+pub lets-bad : (w : List ℕ) (n i : ℕ) → n ≡ getD w 0 0 → n < length w → i < n → 251 < getD w (i + 1) 0 → read-lets w ≡ none
+unfolding read-lets
+lets-bad [] n i e k h g = refl
+lets-bad (x ∷ w) n i e k h g =
+    let q : 251 < getD w i 0 = subst (λ y. 251 < y) (at-one (x ∷ w) i) g in
+    rw (numbers-some x w (omega arith), all-bad id-ok w i x (omega arith) (omega arith) (id-no _ q))
+
+pub lets-good : (p w : List ℕ) (n i : ℕ) {l : List ℕ} {at pos : ℕ} {m : List ℕ} → Lets p w i l at pos m → n ≡ getD w 0 0 → n < length w → i ≤ n → n ≤ i
+    → Good (flat (let-line p)) (read-lets w) w l at (n + 1) pos m
+unfolding read-lets
+lets-good p [] n i t e k h g = absurd (omega arith)
+lets-good p (x ∷ w) n i {l} {at} {pos} {m} t e k h g =
+    let ei : i ≡ x = omega arith in
+    let en : n + 1 ≡ suc x = omega arith in
+    let t′ : Taken id-ok (let-line p) w x l at pos m = subst (λ j. Taken id-ok (let-line p) w j l at pos m) ei t in
+    record { thing = take x w; is = rw (numbers-some x w (omega arith), t′ .pass, en); within = omega arith; wrote = t′ .each .wrote }
+
+-- PLACES
+abbrev place-fine : ℕ → Bool
+place-fine x = place-ok (place-of x)
+
+abbrev place-said : ℕ → List ℕ
+place-said x = place-text (place-of x)
+
+abbrev pub Places : List ℕ → ℕ → List ℕ → ℕ → ℕ → List ℕ → Type 0
+Places w i l at pos m = Taken place-fine place-said w i l at pos m
+
+pub place-yes : (x : ℕ) → x ≡ 65535 → true ≡ place-ok (place-of x)
+place-yes x e = rw (eq-eqb x 65535 e)
+
+pub place-is : (x : ℕ) → (x ≡ 65535 → ⊥) → leb x 251 ≡ place-ok (place-of x)
+unfolding id-ok
+place-is x e = sym (rw (ne-eqb x 65535 e) (leb·suc-suc x 251))
+
+pub places-short : (w : List ℕ) (n : ℕ) → length w < n → read-places n w ≡ none
+unfolding read-places
+places-short w n h = rw (numbers-none n w h)
+
+pub places-bad : (w : List ℕ) (n i : ℕ) → n ≤ length w → i < n → false ≡ place-ok (place-of (getD w i 0)) → read-places n w ≡ none
+unfolding read-places
+places-bad w n i k h e = rw (numbers-some n w k, all-map place-ok place-of (take n w), all-bad place-fine w i n h (omega arith) (sym e))
+
+-- what stands before the places, and the places
+said : (s : List ℕ) → places-head (length s) ++ flat place-said s ≡ places-text (map place-of s)
+said [] = refl
+said (x ∷ s) = rw (ne-eqb (suc (length s)) 0 (λ e. omega arith)) (ap (λ t. text " places" ++ t) (each-said (x ∷ s)))
+  where
+    each-said : (s : List ℕ) → flat place-said s ≡ flat place-text (map place-of s)
+    each-said [] = refl
+    each-said (x ∷ s) = ap (λ t. place-text (place-of x) ++ t) (each-said s)
+
+pub places-good : (w : List ℕ) (n c i : ℕ) {l : List ℕ} {at p : ℕ} {k : List ℕ} {pos : ℕ} {m : List ℕ} → n ≡ c → Writes l at (places-head n) p k → Places w i k p pos m → n ≤ length w → i ≤ n → n ≤ i
+    → Good places-text (read-places c w) w l at n pos m
+unfolding read-places
+places-good w n c i {l} {at} {p} {k} {pos} {m} e v t h a b =
+    let ei : i ≡ n = omega arith in
+    let t′ : Places w n k p pos m = subst (λ j. Places w j k p pos m) ei t in
+    subst (λ x. Good places-text (read-places x w) w l at n pos m) e (record {
+      thing = map place-of (take n w);
+      is = rw (numbers-some n w h, all-map place-ok place-of (take n w), t′ .pass);
+      within = h;
+      wrote = writes-as (writes-then v (t′ .each .wrote)) (ap (λ j. places-head j ++ flat place-said (take n w)) (sym (length-take-le n w h)) ∙ said (take n w));
+    })
+
+-- PATTERN: three words, and the places
+-- a reading that fails, whatever the test before it
+pub guard-none : {A B : Type 0} (t : Bool) (o : Option A) (f : A → Option B) → o ≡ none → (guarded t o >>= f) ≡ none
+guard-none true o f e = rw e
+guard-none false o f e = refl
+
+pub pattern-short : (w : List ℕ) → length w < 3 → read-pattern w ≡ none
+unfolding read-pattern
+pattern-short [] h = refl
+pattern-short (a ∷ []) h = refl
+pattern-short (a ∷ b ∷ []) h = refl
+pattern-short (a ∷ b ∷ x ∷ w) h = absurd (omega arith)
+
+pub pattern-bad : (w : List ℕ) → 3 ≤ length w → false ≡ pattern-ok (pattern-at (getD w 0 0) (signed (getD w 2 0)) (getD w 1 0)) → read-pattern w ≡ none
+unfolding read-pattern
+pattern-bad [] h e = absurd (omega arith)
+pattern-bad (a ∷ []) h e = absurd (omega arith)
+pattern-bad (a ∷ b ∷ []) h e = absurd (omega arith)
+pattern-bad (a ∷ b ∷ x ∷ w) h e = rw (← e)
+
+pub pattern-none : (w : List ℕ) → 3 ≤ length w → read-places (getD w 1 0) (drop 3 w) ≡ none → read-pattern w ≡ none
+unfolding read-pattern
+pattern-none [] h e = absurd (omega arith)
+pattern-none (a ∷ []) h e = absurd (omega arith)
+pattern-none (a ∷ b ∷ []) h e = absurd (omega arith)
+pattern-none (a ∷ b ∷ x ∷ w) h e = guard-none (pattern-ok (pattern-at a (signed x) b)) (read-places b w) _ e
+
+pub pattern-good : (p : List ℕ) (i : ℕ) (w : List ℕ) {n : ℕ} {l : List ℕ} {at a : ℕ} {k : List ℕ} {b : ℕ} {j : List ℕ} {r : ℕ} {m : List ℕ} → 3 ≤ length w
+    → true ≡ pattern-ok (pattern-at (getD w 0 0) (signed (getD w 2 0)) (getD w 1 0)) → Writes l at (arm-head p i (getD w 0 0) (signed (getD w 2 0))) a k
+    → Good places-text (read-places (getD w 1 0) (drop 3 w)) (drop 3 w) k a n b j → Writes j b (text "\n") r m → Good (pattern-text p i) (read-pattern w) w l at (n + 3) r m
+unfolding read-pattern arm-line
+pattern-good p i [] h e u g v = absurd (omega arith)
+pattern-good p i (a ∷ []) h e u g v = absurd (omega arith)
+pattern-good p i (a ∷ b ∷ []) h e u g v = absurd (omega arith)
+pattern-good p i (a ∷ b ∷ x ∷ w) {n} h e u g v =
+    let en : n + 3 ≡ suc (suc (suc n)) = omega arith in
+    let gw : n ≤ length w = g .within in
+    record { thing = (pattern-at a (signed x) b, g .thing); is = rw (← e, g .is, en); within = omega arith; wrote = writes-then (writes-then u (g .wrote)) v }

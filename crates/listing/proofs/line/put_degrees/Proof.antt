@@ -1,0 +1,51 @@
+-- `put_degrees` meets its contract: text behind text.
+use Rattle.listing.proofs.Writing.{writes-then, writes-as, degrees-is}
+use borrow.Author.Needs.{needs}
+use Rattle.listing.proofs.line.put_degrees.Statement.{statement}
+use Rattle.listing.proofs.line.put_degrees.Tie as tie
+use Rattle.listing.proofs.line.put_degrees.Reads as reads
+use Rattle.listing.proofs.line.put_degrees.Lts as lts
+use Rattle.listing.proofs.line.magnitude.Reads as magnitude-reads
+use Rattle.listing.proofs.line.put_byte.Reads as put-byte-reads
+use Rattle.listing.proofs.line.put_decimal.Reads as put-decimal-reads
+use Rattle.listing.proofs.line.put_sign.Reads as put-sign-reads
+
+-- src/line.rt:114:9
+put-sign-requires : tie.Need-put-sign-requires
+put-sign-requires c κs = search needs
+
+-- src/line.rt:115:9
+magnitude-requires : tie.Need-magnitude-requires
+magnitude-requires c κs = search needs
+
+-- src/line.rt:116:9
+put-decimal-requires : tie.Need-put-decimal-requires
+put-decimal-requires c κs = search needs
+
+-- src/line.rt:117:9
+put-byte-requires : tie.Need-put-byte-requires
+put-byte-requires c κs = search needs
+
+-- src/line.rt:118:5
+put-decimal-requires-2 : tie.Need-put-decimal-requires-2
+put-decimal-requires-2 c κs = search needs
+
+-- src/line.rt:111:1
+same-length : tie.Need-same-length
+same-length c = search needs
+
+-- src/line.rt:111:1
+returns : tie.Need-returns
+returns c = writes-as (writes-then (writes-then (writes-then (c .before .before .before .before .before .before .before .before .before .before .before .before .before .before .before .put-sign .ensures) (c .before .before .before .before .before .before .before .before .before .before .put-decimal .ensures)) (c .before .before .before .before .before .before .put-byte .ensures)) (c .before .before .put-decimal2 .ensures)) (degrees-is _ _ (c .before .before .before .before .before .before .before .before .before .before .before .before .magnitude .ensures))
+
+pub put-degrees-spec : {M : Type 1} → statement M
+put-degrees-spec =
+    tie.close
+    (tie.spec
+    put-sign-requires
+    magnitude-requires
+    put-decimal-requires
+    put-byte-requires
+    put-decimal-requires-2
+    same-length
+    returns)

@@ -1,0 +1,67 @@
+-- `put_indent` meets its contract: two spaces for each number before k.
+use borrow.Author.Needs.{needs}
+use native.Mathlib.Omega.{arith}
+use mathlib.Core.Path.{_≡_}
+use mathlib.Core.List.{List}
+use Prim.Native.Nat.{ℕ, _≤_, _-_}
+use lib.ListN.{length}
+use Rattle.definition.specs.Listing.{text as quoted}
+use Rattle.listing.proofs.Writing.{Each, each-starts, each-turn, indents}
+use Rattle.listing.proofs.line.put_indent.Statement.{statement}
+use Rattle.listing.proofs.line.put_indent.Tie as tie
+use Rattle.listing.proofs.line.put_indent.Reads as reads
+use Rattle.listing.proofs.line.put_indent.Lts as lts
+use Rattle.listing.proofs.line.put_text.Reads as put-text-reads
+
+abbrev Inv-loop : tie.InvT-loop
+Inv-loop depth text₀ at pos₀ k₀ t6 text pos k = ((p : List ℕ) → length p ≡ depth → Each (λ n. quoted "  ") p k text₀ at pos text) × ((k ≤ depth) × (length text ≡ length text₀))
+
+abbrev μ-loop : tie.MeasureT-loop
+μ-loop depth text₀ at pos₀ k₀ t6 text pos k = depth - k
+
+-- src/line.rt:166:5
+loop-holds : tie.Need-loop-holds Inv-loop μ-loop
+loop-holds c = (λ p e. each-starts _ _ _ _, (omega arith, omega arith))
+
+-- src/line.rt:167:24
+slice-aggregate-put-text : tie.Need-slice-aggregate-put-text Inv-loop μ-loop
+slice-aggregate-put-text c = search needs
+
+-- src/line.rt:167:9
+put-text-requires : tie.Need-put-text-requires Inv-loop μ-loop
+put-text-requires c κs = search needs
+
+-- src/line.rt:168:9
+add-k : tie.Need-add-k Inv-loop μ-loop
+add-k c = search needs
+
+-- src/line.rt:166:5
+loop-less : tie.Need-loop-less Inv-loop μ-loop
+loop-less c = search needs
+
+-- src/line.rt:166:5
+loop-again : tie.Need-loop-again Inv-loop μ-loop
+loop-again c = (λ p e. each-turn (c .before .before .before .before .before .before .loop .inv .0 p e) (omega (arith, e, c .before .before .before .before .before .loop-test .taken)) (c .before .before .put-text .ensures), (omega arith, search needs))
+
+-- src/line.rt:161:1
+same-length : tie.Need-same-length Inv-loop μ-loop
+same-length c = search needs
+
+-- src/line.rt:161:1
+returns : tie.Need-returns Inv-loop μ-loop
+returns c = indents (c .before .loop .inv .0) (c .loop-test .left)
+
+pub put-indent-spec : {M : Type 1} → statement M
+put-indent-spec =
+    tie.close
+    (tie.spec
+    Inv-loop
+    μ-loop
+    loop-holds
+    slice-aggregate-put-text
+    put-text-requires
+    add-k
+    loop-less
+    loop-again
+    same-length
+    returns)

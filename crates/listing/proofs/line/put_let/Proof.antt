@@ -1,0 +1,46 @@
+-- `put_let` meets its contract: text behind text.
+use Rattle.listing.specs.Writes.{numbers-of}
+use Rattle.listing.proofs.Writing.{writes-then, writes-as, let-is, path-long}
+use borrow.Author.Needs.{needs}
+use Rattle.listing.proofs.line.put_let.Statement.{statement}
+use Rattle.listing.proofs.line.put_let.Tie as tie
+use Rattle.listing.proofs.line.put_let.Reads as reads
+use Rattle.listing.proofs.line.put_let.Lts as lts
+use Rattle.listing.proofs.line.put_byte.Reads as put-byte-reads
+use Rattle.listing.proofs.line.put_field.Reads as put-field-reads
+use Rattle.listing.proofs.line.put_indent.Reads as put-indent-reads
+
+-- src/line.rt:205:9
+put-indent-requires : tie.Need-put-indent-requires
+put-indent-requires c κs = search needs
+
+-- src/line.rt:206:28
+slice-aggregate-put-field : tie.Need-slice-aggregate-put-field
+slice-aggregate-put-field c = search needs
+
+-- src/line.rt:206:9
+put-field-requires : tie.Need-put-field-requires
+put-field-requires c κs = search needs
+
+-- src/line.rt:207:5
+put-byte-requires : tie.Need-put-byte-requires
+put-byte-requires c κs = search needs
+
+-- src/line.rt:201:1
+same-length : tie.Need-same-length
+same-length c = search needs
+
+-- src/line.rt:201:1
+returns : tie.Need-returns
+returns c = writes-as (writes-then (writes-then (c .before .before .before .before .before .before .before .before .before .before .before .put-indent .ensures .is (numbers-of (c .before .before .before .before .before .before .before .before .before .before .before .before .before .before .args .path)) (path-long (c .before .before .before .before .before .before .before .before .before .before .before .before .before .before .pre))) (c .before .before .before .before .before .before .put-field .ensures)) (c .before .before .put-byte .ensures)) (let-is _ 0 _)
+
+pub put-let-spec : {M : Type 1} → statement M
+put-let-spec =
+    tie.close
+    (tie.spec
+    put-indent-requires
+    slice-aggregate-put-field
+    put-field-requires
+    put-byte-requires
+    same-length
+    returns)

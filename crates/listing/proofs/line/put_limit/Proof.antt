@@ -1,0 +1,65 @@
+-- `put_limit` meets its contract: text behind text.
+use Rattle.listing.proofs.Writing.{writes-then, writes-as, limit-is}
+use borrow.Author.Needs.{needs}
+use Rattle.listing.proofs.line.put_limit.Statement.{statement}
+use Rattle.listing.proofs.line.put_limit.Tie as tie
+use Rattle.listing.proofs.line.put_limit.Reads as reads
+use Rattle.listing.proofs.line.put_limit.Lts as lts
+use Rattle.listing.proofs.line.put_degrees.Reads as put-degrees-reads
+use Rattle.listing.proofs.line.put_signed.Reads as put-signed-reads
+use Rattle.listing.proofs.line.put_text.Reads as put-text-reads
+
+-- src/line.rt:125:26
+slice-aggregate-put-text : tie.Need-slice-aggregate-put-text
+slice-aggregate-put-text c = search needs
+
+-- src/line.rt:125:9
+put-text-requires : tie.Need-put-text-requires
+put-text-requires c κs = search needs
+
+-- src/line.rt:126:9
+put-signed-requires : tie.Need-put-signed-requires
+put-signed-requires c κs = search needs
+
+-- src/line.rt:127:26
+slice-aggregate-put-text-2 : tie.Need-slice-aggregate-put-text-2
+slice-aggregate-put-text-2 c = search needs
+
+-- src/line.rt:127:9
+put-text-requires-2 : tie.Need-put-text-requires-2
+put-text-requires-2 c κs = search needs
+
+-- src/line.rt:128:9
+put-degrees-requires : tie.Need-put-degrees-requires
+put-degrees-requires c κs = search needs
+
+-- src/line.rt:129:14
+slice-aggregate-put-text-3 : tie.Need-slice-aggregate-put-text-3
+slice-aggregate-put-text-3 c = search needs
+
+-- src/line.rt:129:5
+put-text-requires-3 : tie.Need-put-text-requires-3
+put-text-requires-3 c κs = search needs
+
+-- src/line.rt:122:1
+same-length : tie.Need-same-length
+same-length c = search needs
+
+-- src/line.rt:122:1
+returns : tie.Need-returns
+returns c = writes-as (writes-then (writes-then (writes-then (writes-then (c .before .before .before .before .before .before .before .before .before .before .before .before .before .before .before .before .before .before .before .before .put-text .ensures) (c .before .before .before .before .before .before .before .before .before .before .before .before .before .before .before .before .put-signed .ensures)) (c .before .before .before .before .before .before .before .before .before .before .before .put-text2 .ensures)) (c .before .before .before .before .before .before .before .put-degrees .ensures)) (c .before .before .put-text3 .ensures)) (limit-is _)
+
+pub put-limit-spec : {M : Type 1} → statement M
+put-limit-spec =
+    tie.close
+    (tie.spec
+    slice-aggregate-put-text
+    put-text-requires
+    put-signed-requires
+    slice-aggregate-put-text-2
+    put-text-requires-2
+    put-degrees-requires
+    slice-aggregate-put-text-3
+    put-text-requires-3
+    same-length
+    returns)

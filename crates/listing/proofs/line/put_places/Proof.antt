@@ -1,0 +1,32 @@
+-- `put_places` meets its contract: nothing where there are no places.
+use Rattle.listing.proofs.Writing.{writes-none, writes-as, head-none, head-some}
+use borrow.Author.Needs.{needs}
+use Rattle.listing.proofs.line.put_places.Statement.{statement}
+use Rattle.listing.proofs.line.put_places.Tie as tie
+use Rattle.listing.proofs.line.put_places.Reads as reads
+use Rattle.listing.proofs.line.put_places.Lts as lts
+use Rattle.listing.proofs.line.put_text.Reads as put-text-reads
+
+-- src/line.rt:164:9
+returns : tie.Need-returns
+returns c = writes-as (writes-none _ _) (head-none _ (c .if1 .taken))
+
+-- src/line.rt:166:14
+slice-aggregate-put-text : tie.Need-slice-aggregate-put-text
+slice-aggregate-put-text c = search needs
+
+-- src/line.rt:166:5
+put-text-requires : tie.Need-put-text-requires
+put-text-requires c κs = search needs
+
+-- src/line.rt:160:1
+same-length : tie.Need-same-length
+same-length c = search needs
+
+-- src/line.rt:160:1
+returns-2 : tie.Need-returns-2
+returns-2 c = writes-as (c .before .before .put-text .ensures) (head-some _ (c .before .before .before .before .before .if1 .left))
+
+pub put-places-spec : {M : Type 1} → statement M
+put-places-spec =
+    tie.close (tie.spec returns slice-aggregate-put-text put-text-requires same-length returns-2)

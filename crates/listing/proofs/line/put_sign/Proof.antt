@@ -1,0 +1,27 @@
+-- `put_sign` meets its contract: words of the upper half are negative.
+use Rattle.listing.proofs.Writing.{writes-none, writes-as, sign-none, sign-minus}
+use borrow.Author.Needs.{needs}
+use Rattle.listing.proofs.line.put_sign.Statement.{statement}
+use Rattle.listing.proofs.line.put_sign.Tie as tie
+use Rattle.listing.proofs.line.put_sign.Reads as reads
+use Rattle.listing.proofs.line.put_sign.Lts as lts
+use Rattle.listing.proofs.line.put_byte.Reads as put-byte-reads
+
+-- src/line.rt:89:9
+returns : tie.Need-returns
+returns c = writes-as (writes-none _ _) (sign-none _ (c .if1 .taken))
+
+-- src/line.rt:91:5
+put-byte-requires : tie.Need-put-byte-requires
+put-byte-requires c κs = search needs
+
+-- src/line.rt:85:1
+same-length : tie.Need-same-length
+same-length c = search needs
+
+-- src/line.rt:85:1
+returns-2 : tie.Need-returns-2
+returns-2 c = writes-as (c .before .before .put-byte .ensures) (sign-minus (c .before .before .before .before .before .before .args .w) (c .before .before .before .before .if1 .left))
+
+pub put-sign-spec : {M : Type 1} → statement M
+put-sign-spec = tie.close (tie.spec returns put-byte-requires same-length returns-2)

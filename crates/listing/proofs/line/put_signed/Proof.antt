@@ -1,0 +1,35 @@
+-- `put_signed` meets its contract: the sign, then the magnitude.
+use Rattle.listing.proofs.Writing.{writes-then, writes-as, signed-is}
+use borrow.Author.Needs.{needs}
+use Rattle.listing.proofs.line.put_signed.Statement.{statement}
+use Rattle.listing.proofs.line.put_signed.Tie as tie
+use Rattle.listing.proofs.line.put_signed.Reads as reads
+use Rattle.listing.proofs.line.put_signed.Lts as lts
+use Rattle.listing.proofs.line.magnitude.Reads as magnitude-reads
+use Rattle.listing.proofs.line.put_decimal.Reads as put-decimal-reads
+use Rattle.listing.proofs.line.put_sign.Reads as put-sign-reads
+
+-- src/line.rt:106:9
+put-sign-requires : tie.Need-put-sign-requires
+put-sign-requires c κs = search needs
+
+-- src/line.rt:107:17
+magnitude-requires : tie.Need-magnitude-requires
+magnitude-requires c κs = search needs
+
+-- src/line.rt:107:5
+put-decimal-requires : tie.Need-put-decimal-requires
+put-decimal-requires c κs = search needs
+
+-- src/line.rt:103:1
+same-length : tie.Need-same-length
+same-length c = search needs
+
+-- src/line.rt:103:1
+returns : tie.Need-returns
+returns c = writes-as (writes-then (c .before .before .before .before .before .before .before .put-sign .ensures) (c .before .before .put-decimal .ensures)) (signed-is _ _ (c .before .before .before .before .magnitude .ensures))
+
+pub put-signed-spec : {M : Type 1} → statement M
+put-signed-spec =
+    tie.close
+    (tie.spec put-sign-requires magnitude-requires put-decimal-requires same-length returns)

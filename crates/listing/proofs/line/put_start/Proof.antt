@@ -1,0 +1,47 @@
+-- `put_start` meets its contract: text behind text.
+use Rattle.listing.specs.Writes.{numbers-of}
+use Rattle.listing.proofs.Writing.{writes-then, writes-as, start-is, path-long}
+use borrow.Author.Needs.{needs}
+use Rattle.listing.proofs.line.put_start.Statement.{statement}
+use Rattle.listing.proofs.line.put_start.Tie as tie
+use Rattle.listing.proofs.line.put_start.Reads as reads
+use Rattle.listing.proofs.line.put_start.Lts as lts
+use Rattle.listing.proofs.line.put_byte.Reads as put-byte-reads
+use Rattle.listing.proofs.line.put_decimal.Reads as put-decimal-reads
+use Rattle.listing.proofs.line.put_indent.Reads as put-indent-reads
+use Rattle.listing.proofs.line.put_points.Reads as put-points-reads
+
+-- src/line.rt:194:9
+put-indent-requires : tie.Need-put-indent-requires
+put-indent-requires c κs = search needs
+
+-- src/line.rt:195:9
+put-points-requires : tie.Need-put-points-requires
+put-points-requires c κs = search needs
+
+-- src/line.rt:196:9
+put-decimal-requires : tie.Need-put-decimal-requires
+put-decimal-requires c κs = search needs
+
+-- src/line.rt:197:5
+put-byte-requires : tie.Need-put-byte-requires
+put-byte-requires c κs = search needs
+
+-- src/line.rt:190:1
+same-length : tie.Need-same-length
+same-length c = search needs
+
+-- src/line.rt:190:1
+returns : tie.Need-returns
+returns c = writes-as (writes-then (writes-then (writes-then (c .before .before .before .before .before .before .before .before .before .before .before .before .before .before .put-indent .ensures .is (numbers-of (c .before .before .before .before .before .before .before .before .before .before .before .before .before .before .before .before .before .args .path)) (path-long (c .before .before .before .before .before .before .before .before .before .before .before .before .before .before .before .before .before .pre))) (c .before .before .before .before .before .before .before .before .before .before .put-points .ensures)) (c .before .before .before .before .before .before .put-decimal .ensures)) (c .before .before .put-byte .ensures)) (start-is _ _)
+
+pub put-start-spec : {M : Type 1} → statement M
+put-start-spec =
+    tie.close
+    (tie.spec
+    put-indent-requires
+    put-points-requires
+    put-decimal-requires
+    put-byte-requires
+    same-length
+    returns)

@@ -1,0 +1,17 @@
+-- `place_ok` meets its contract: a place is empty, or an id.
+use Rattle.listing.proofs.Reading.{place-yes, place-is}
+use Rattle.listing.proofs.place_ok.Statement.{statement}
+use Rattle.listing.proofs.place_ok.Tie as tie
+use Rattle.listing.proofs.place_ok.Reads as reads
+use Rattle.listing.proofs.place_ok.Lts as lts
+
+-- src/lib.rt:59:1
+returns : tie.Need-returns
+returns c = place-yes (c .before .args .w) (c .if1 .taken)
+
+-- src/lib.rt:59:1
+returns-2 : tie.Need-returns-2
+returns-2 c = place-is (c .before .args .w) (c .if1 .left)
+
+pub place-ok-spec : {M : Type 1} → statement M
+place-ok-spec = tie.close (tie.spec returns returns-2)
