@@ -20,19 +20,13 @@ fn text_room() -> [u8; 4194304]
     [0u8; 4194304]
 }
 
-fn refuse(n: u8) {
-    io::write_all(STDOUT_FILENO, b"refused ");
-    io::print_decimal(STDOUT_FILENO, n as u64);
-    io::write_all(STDOUT_FILENO, b"\n");
-}
-
 fn print_listing(words: &[u32]) {
     let mut text = text_room();
     match listing::list(words, &mut text) {
         Listed::Bytes(n) => {
             io::write_all(STDOUT_FILENO, &text[..n]);
         }
-        Listed::Refused(n) => refuse(n),
+        Listed::Refused(n) => console::refuse(n),
     }
 }
 
@@ -40,25 +34,14 @@ fn answer(book: &[u8]) {
     let mut room = words_room();
     match plan::plan(book, &mut room) {
         Planned::Words(n) => print_listing(&room[..n]),
-        Planned::Refused(n) => refuse(n),
+        Planned::Refused(n) => console::refuse(n),
     }
-}
-
-// Whether there is a byte behind those that were read.
-fn is_more() -> bool {
-    let mut one = [0u8; 1];
-    let got = libc::read(STDIN_FILENO, &mut one);
-    0 < got
 }
 
 fn main() {
     let mut book = io::large_buffer();
     let n = io::read_full(STDIN_FILENO, &mut book);
-    if n == 65536 {
-        if is_more() {
-            io::write_all(STDOUT_FILENO, b"too long\n");
-            return;
-        }
+    if !console::is_too_long(n) {
+        answer(&book[..n]);
     }
-    answer(&book[..n]);
 }

@@ -1,6 +1,5 @@
 -- Laws of what is written and of what is read.
 pub mod Writing
-pub mod Patterns
 pub mod Reading
 pub mod Parts
 pub mod Turns

@@ -3,27 +3,21 @@ use mathlib.Core.Path.{_≡_, refl, sym, ap, subst, _∙_}
 use mathlib.Core.Bool.{false, _&&_}
 use mathlib.Core.List.{List, [], _∷_, _++_}
 use mathlib.Core.Option.{Option, none}
-use Prim.Native.Nat.{ℕ, zero, suc, _+_, _-_, _<_, _≤_}
+use Prim.Native.Nat.{ℕ, suc, _+_, _-_, _<_, _≤_}
 use native.Mathlib.Omega.{arith}
-use lib.Dec.{ltb, leb}
 use lib.ListN.{length, getD, take, drop, length-drop, length-take}
 use lib.Seq.{drop-drop}
-use borrow.Author.Tests.{lt-leb, le-leb, lt-ltb, le-ltb, eq-eqb, ne-eqb}
+use borrow.Author.Tests.{le-leb, lt-ltb, eq-eqb, ne-eqb}
 use Rattle.definition.specs.Lists.{flat}
 use Rattle.definition.specs.Tree.{Block, equal, return}
 use Rattle.definition.specs.Read.{Reader, id-ok, read-lets, read-pattern, read-arm, read-flow, read-tagged, read-step, read-counted, read-framed, read-block}
 use Rattle.definition.specs.Listing.{let-line, equal-line, return-line, steps-text, flow-text}
 use Rattle.laws.specs.Answers.{and-false}
+use Rattle.walk.proofs.Readers.{id-yes, id-no, tagged, block-more}
 use Rattle.listing.specs.declared.Seen.{Seen}
 use Rattle.listing.specs.Writes.{Writes}
 use Rattle.listing.specs.Ends.{Good, Ends, Returns, step-text, pattern-text, arm-text}
 use Rattle.listing.proofs.Writing.{writes-then, writes-as}
-use Rattle.listing.proofs.Reading.{guard-none, id-yes, id-no}
-
--- ARM
-pub arm-none : (sub : Reader Block) (w : List ℕ) → read-pattern w ≡ none → read-arm sub w ≡ none
-unfolding read-arm
-arm-none sub w e = rw e
 
 pub arm-stops : (p : List ℕ) (i : ℕ) (sub : Reader Block) (w : List ℕ) {l : List ℕ} {at n r : ℕ} {m : List ℕ} → Good (pattern-text p i) (read-pattern w) w l at n r m → sub (drop n w) ≡ none → read-arm sub w ≡ none
 unfolding read-arm
@@ -40,10 +34,6 @@ arm-good p i sub w q {n = n} {c = c} g e h = record {
 }
 
 -- STEP
-pub step-none : (sub : Reader Block) (w : List ℕ) → read-lets w ≡ none → read-step sub w ≡ none
-unfolding read-step
-step-none sub w e = rw e
-
 pub step-stops : (p : List ℕ) (sub : Reader Block) (w : List ℕ) {l : List ℕ} {at n r : ℕ} {m : List ℕ} → Good (flat (let-line p)) (read-lets w) w l at n r m → read-tagged sub (drop n w) ≡ none → read-step sub w ≡ none
 unfolding read-step
 step-stops p sub w g e = rw (g .is, e)
@@ -59,37 +49,6 @@ step-good p i sub w {n = n} {c = c} g h = record {
 }
 
 -- FLOW: by its tag
-tagged : (sub : Reader Block) (w : List ℕ) (n : ℕ) → 3 ≤ length w → getD w 0 0 ≡ n → read-tagged sub w ≡ read-flow sub n (drop 1 w)
-unfolding read-tagged
-tagged sub [] n h e = absurd (omega arith)
-tagged sub (x ∷ w) n h e = rw e
-
-pub flow-short : (sub : Reader Block) (w : List ℕ) → length w < 3 → read-tagged sub w ≡ none
-unfolding read-tagged read-flow
-flow-short sub [] h = refl
-flow-short sub (zero ∷ []) h = refl
-flow-short sub (suc zero ∷ []) h = refl
-flow-short sub (suc (suc zero) ∷ []) h = refl
-flow-short sub (suc (suc (suc zero)) ∷ []) h = refl
-flow-short sub (suc (suc (suc (suc n))) ∷ []) h = refl
-flow-short sub (zero ∷ a ∷ []) h = refl
-flow-short sub (suc zero ∷ a ∷ []) h = refl
-flow-short sub (suc (suc zero) ∷ a ∷ []) h = refl
-flow-short sub (suc (suc (suc zero)) ∷ a ∷ []) h = refl
-flow-short sub (suc (suc (suc (suc n))) ∷ a ∷ []) h = refl
-flow-short sub (x ∷ a ∷ b ∷ w) h = absurd (omega arith)
-
-other : (sub : Reader Block) (n : ℕ) (w : List ℕ) → (n ≡ 0 → ⊥) → (n ≡ 1 → ⊥) → (n ≡ 3 → ⊥) → read-flow sub n w ≡ none
-unfolding read-flow
-other sub zero w a b x = absurd (a refl)
-other sub (suc zero) w a b x = absurd (b refl)
-other sub (suc (suc zero)) w a b x = refl
-other sub (suc (suc (suc zero))) w a b x = absurd (x refl)
-other sub (suc (suc (suc (suc n)))) w a b x = refl
-
-pub flow-other : (sub : Reader Block) (w : List ℕ) → 3 ≤ length w → (getD w 0 0 ≡ 0 → ⊥) → (getD w 0 0 ≡ 1 → ⊥) → (getD w 0 0 ≡ 3 → ⊥) → read-tagged sub w ≡ none
-flow-other sub w h a b x = tagged sub w (getD w 0 0) h refl ∙ other sub (getD w 0 0) (drop 1 w) a b x
-
 pub flow-is : (p : List ℕ) (i : ℕ) (sub : Reader Block) (w : List ℕ) (n : ℕ) {l : List ℕ} {at : ℕ} {r : Seen} {m : List ℕ} → 3 ≤ length w → getD w 0 0 ≡ n
     → Ends (flow-text p i) (read-flow sub n (drop 1 w)) w l at r m → Ends (flow-text p i) (read-tagged sub w) w l at r m
 flow-is p i sub w n {l} {at} {r} {m} h e k = subst (λ o. Ends (flow-text p i) o w l at r m) (sym (tagged sub w n h e)) k
@@ -128,26 +87,6 @@ module _ (p : List ℕ) (i : ℕ) where
   return-good (t ∷ a ∷ b ∷ x ∷ w) h k g v = record { is = λ sub. record { is = record { thing = return a b x; is = rw (id-yes a k, id-yes x g); within = omega arith; wrote = v } } }
 
 -- EQUAL
-pair-bad : (sub : Reader Block) (w : List ℕ) → 3 ≤ length w → ltb (getD w 1 0) (getD w 2 0) && id-ok (getD w 2 0) ≡ false → read-flow sub 1 (drop 1 w) ≡ none
-unfolding read-flow
-pair-bad sub [] h e = absurd (omega arith)
-pair-bad sub (t ∷ []) h e = absurd (omega arith)
-pair-bad sub (t ∷ a ∷ []) h e = absurd (omega arith)
-pair-bad sub (t ∷ a ∷ b ∷ w) h e = rw e
-
-pub pair-order : (sub : Reader Block) (w : List ℕ) → 3 ≤ length w → getD w 2 0 ≤ getD w 1 0 → read-flow sub 1 (drop 1 w) ≡ none
-pair-order sub w h k = pair-bad sub w h (rw (le-ltb (getD w 1 0) (getD w 2 0) k))
-
-pub pair-high : (sub : Reader Block) (w : List ℕ) → 3 ≤ length w → 251 < getD w 2 0 → read-flow sub 1 (drop 1 w) ≡ none
-pair-high sub w h k = pair-bad sub w h (rw (id-no (getD w 2 0) k) (and-false (ltb (getD w 1 0) (getD w 2 0))))
-
-pub pair-none : (sub : Reader Block) (w : List ℕ) → 3 ≤ length w → sub (drop 3 w) ≡ none → read-flow sub 1 (drop 1 w) ≡ none
-unfolding read-flow
-pair-none sub [] h e = absurd (omega arith)
-pair-none sub (t ∷ []) h e = absurd (omega arith)
-pair-none sub (t ∷ a ∷ []) h e = absurd (omega arith)
-pair-none sub (t ∷ a ∷ b ∷ w) h e = guard-none (ltb a b && id-ok b) (sub w) _ e
-
 pub pair-good : (p : List ℕ) (i : ℕ) (sub : Reader Block) (w q : List ℕ) {l : List ℕ} {at r : ℕ} {m : List ℕ} {n s : ℕ} {k : List ℕ} → 3 ≤ length w → getD w 1 0 < getD w 2 0 → getD w 2 0 ≤ 251
     → Writes l at (equal-line p i (getD w 1 0) (getD w 2 0)) r m → q ≡ p ++ (i ∷ []) → Good (steps-text q 1) (sub (drop 3 w)) (drop 3 w) m r n s k → Good (flow-text p i) (read-flow sub 1 (drop 1 w)) w l at (n + 3) s k
 unfolding read-flow flow-text
@@ -165,41 +104,10 @@ pair-good p i sub (t ∷ x ∷ y ∷ w) q {n = n} h a b v e g =
     }
 
 -- BLOCK
-pub block-deep : (n : ℕ) (w : List ℕ) → n ≡ 0 → read-block n w ≡ none
-unfolding read-block
-block-deep n w e = rw e
-
-block-more : (n : ℕ) (w : List ℕ) → (n ≡ 0 → ⊥) → read-block n w ≡ read-framed (read-block (n - 1)) w
-unfolding read-block
-block-more zero w h = absurd (h refl)
-block-more (suc n) w h = let e : suc n - 1 ≡ n = omega arith in rw e
-
-pub block-empty : (n : ℕ) (w : List ℕ) → length w ≡ 0 → read-block n w ≡ none
-unfolding read-block read-framed
-block-empty zero w h = refl
-block-empty (suc n) [] h = refl
-block-empty (suc n) (x ∷ w) h = absurd (omega arith)
-
-framed-long : (sub : Reader Block) (w : List ℕ) → 0 < length w → length w ≤ getD w 0 0 → read-framed sub w ≡ none
-unfolding read-framed
-framed-long sub [] h k = refl
-framed-long sub (x ∷ w) h k = rw (lt-leb x (length w) (omega arith))
-
-pub block-long : (n : ℕ) (w : List ℕ) → (n ≡ 0 → ⊥) → 0 < length w → length w ≤ getD w 0 0 → read-block n w ≡ none
-block-long n w z h k = block-more n w z ∙ framed-long (read-block (n - 1)) w h k
-
 -- what a callee told of the part that the code lends: as many words as the first one says
 pub counted-part : {A : Type 0} {text : A → List ℕ} {l : List ℕ} {at : ℕ} {r : Seen} {m : List ℕ} (read : List ℕ → Option (A × List ℕ)) (w : List ℕ) (n : ℕ) → n ≡ getD w 0 0
     → Ends text (read (take (n + 1 - 1) (drop 1 w))) (take (n + 1 - 1) (drop 1 w)) l at r m → Ends text (read (take (getD w 0 0) (drop 1 w))) (take (getD w 0 0) (drop 1 w)) l at r m
 counted-part {A} {text} {l} {at} {r} {m} read w n e k = let q : n + 1 - 1 ≡ getD w 0 0 = omega arith in subst (λ c. Ends text (read (take c (drop 1 w))) (take c (drop 1 w)) l at r m) q k
-
-framed-none : (sub : Reader Block) (w : List ℕ) → 0 < length w → read-counted sub (take (getD w 0 0) (drop 1 w)) ≡ none → read-framed sub w ≡ none
-unfolding read-framed
-framed-none sub [] h e = refl
-framed-none sub (x ∷ w) h e = guard-none (leb x (length w)) (read-counted sub (take x w)) _ e
-
-pub block-none : (n : ℕ) (w : List ℕ) → (n ≡ 0 → ⊥) → 0 < length w → read-counted (read-block (n - 1)) (take (getD w 0 0) (drop 1 w)) ≡ none → read-block n w ≡ none
-block-none n w z h e = block-more n w z ∙ framed-none (read-block (n - 1)) w h e
 
 module _ (f : Block → List ℕ) (sub : Reader Block) where
   framed-left : (w : List ℕ) (c : ℕ) {l : List ℕ} {at r : ℕ} {m : List ℕ} → getD w 0 0 < length w → (c ≡ getD w 0 0 → ⊥)

@@ -1,26 +1,28 @@
 -- What is read of lets, places and patterns, and what of it is written.
 use mathlib.Core.Path.{_≡_, refl, sym, ap, subst, _∙_}
-use mathlib.Core.Bool.{Bool, true, false, _&&_}
+use mathlib.Core.Bool.{Bool, true, false}
 use mathlib.Core.List.{List, [], _∷_, _++_, map}
-use mathlib.Core.Option.{Option, none, some}
-use Prim.Native.Nat.{ℕ, zero, suc, _+_, _-_, _<_, _≤_}
+use mathlib.Core.Option.{Option, none}
+use Prim.Native.Nat.{ℕ, suc, _+_, _-_, _<_, _≤_}
 use native.Mathlib.Omega.{arith}
 use native.Mathlib.Numerals.{add-one}
 use lib.Dec.{leb, leb·suc-suc}
 use lib.ListN.{length, getD, take, drop, length-drop}
 use lib.Seq.{take-suc, getD-drop, length-take-le}
-use borrow.Author.Tests.{lt-ltb, le-ltb, eq-eqb, ne-eqb}
+use borrow.Author.Tests.{eq-eqb, ne-eqb}
 use Rattle.definition.specs.Lists.{all, flat}
 use Rattle.definition.specs.Accept.{pattern-ok}
 use Rattle.definition.specs.Tables.{signed}
-use Rattle.definition.specs.Read.{_>>=_, guarded, numbers, id-ok, place-ok, place-of, read-lets, read-places, read-pattern}
+use Rattle.definition.specs.Read.{id-ok, place-ok, place-of, read-lets, read-places, read-pattern}
 use Rattle.definition.specs.Listing.{text, let-line, arm-line, place-text, places-text}
 use Rattle.laws.specs.Lending.{tail-part}
 use Rattle.laws.specs.Tests.{and}
-use Rattle.laws.specs.Turns.{all-append, all-map}
+use Rattle.laws.specs.Turns.{all-append, all-map, front-stop}
+use Rattle.walk.proofs.Readers.{numbers-some, id-yes, id-no}
 use Rattle.listing.specs.declared.Seen.{Seen}
 use Rattle.listing.specs.Writes.{Writes, places-head, arm-head}
-use Rattle.listing.specs.Ends.{Good, Ends, ends, pattern-at, pattern-text}
+use Rattle.walk.specs.Ends.{pattern-at}
+use Rattle.listing.specs.Ends.{Good, Ends, ends, pattern-text}
 use Rattle.listing.proofs.Writing.{Each, each-starts, each-turn, writes-then, writes-as}
 
 -- WHAT A CALLEE TOLD
@@ -36,38 +38,7 @@ pub tail : {A : Type 0} {text : A → List ℕ} {l : List ℕ} {at : ℕ} {r : S
     → Ends text (read (take (length w - n) (drop n w))) (take (length w - n) (drop n w)) l at r m → Ends text (read (drop n w)) (drop n w) l at r m
 tail {A} {text} {l} {at} {r} {m} read w n e = subst (λ v. Ends text (read v) v l at r m) (tail-part w n) e
 
-pub sum-within : (w : List ℕ) (n m : ℕ) → n ≤ length w → m ≤ length (drop n w) → n + m ≤ length w
-sum-within w n m h k = omega (arith, length-drop n w)
-
 -- NUMBERS
-numbers-some : (n : ℕ) (l : List ℕ) → n ≤ length l → numbers n l ≡ some (take n l, drop n l)
-numbers-some zero l h = refl
-numbers-some (suc n) [] h = absurd (omega arith)
-numbers-some (suc n) (x ∷ l) h = rw (numbers-some n l (omega arith))
-
-numbers-none : (n : ℕ) (l : List ℕ) → length l < n → numbers n l ≡ none
-numbers-none zero l h = absurd (omega arith)
-numbers-none (suc n) [] h = refl
-numbers-none (suc n) (x ∷ l) h = rw (numbers-none n l (omega arith))
-
-all-bad : (q : ℕ → Bool) (l : List ℕ) (i n : ℕ) → i < n → i < length l → q (getD l i 0) ≡ false → all q (take n l) ≡ false
-all-bad q [] i n h k e = absurd (omega arith)
-all-bad q (x ∷ l) i zero h k e = absurd (omega arith)
-all-bad q (x ∷ l) zero (suc n) h k e = rw e
-all-bad q (x ∷ l) (suc i) (suc n) h k e = go (q x) (all-bad q l i n (omega arith) (omega arith) e)
-  where
-    go : (b : Bool) → all q (take n l) ≡ false → b && all q (take n l) ≡ false
-    go true g = g
-    go false g = refl
-
-pub id-yes : (x : ℕ) → x ≤ 251 → id-ok x ≡ true
-unfolding id-ok
-id-yes x h = lt-ltb x 252 (omega arith)
-
-pub id-no : (x : ℕ) → 251 < x → id-ok x ≡ false
-unfolding id-ok
-id-no x h = le-ltb x 252 (omega arith)
-
 -- A LOOP over words: the first i of them pass the test q, and f of each is written
 pub record Taken (q : ℕ → Bool) (f : ℕ → List ℕ) (s : List ℕ) (i : ℕ) (l : List ℕ) (at pos : ℕ) (m : List ℕ) : Type 0 where
   pub pass : all q (take i s) ≡ true
@@ -94,22 +65,12 @@ pub lets-turn : (p w : List ℕ) {i : ℕ} {l : List ℕ} {at pos : ℕ} {m : Li
     → {next : ℕ} {m′ : List ℕ} → Writes m pos (let-line p (getD w (i + 1) 0)) next m′ → Lets p w (i + 1) l at next m′
 lets-turn p w {i} t h k v = taken-turn t (simp length-drop (omega arith)) (id-yes _ (subst (λ x. x ≤ 251) (at-one w i) k)) (writes-as v (ap (let-line p) (at-one w i)))
 
-pub lets-empty : (w : List ℕ) → length w ≡ 0 → read-lets w ≡ none
-unfolding read-lets
-lets-empty [] h = refl
-lets-empty (x ∷ w) h = absurd (omega arith)
-
-pub lets-short : (w : List ℕ) (n : ℕ) → 0 < length w → n ≡ getD w 0 0 → length w ≤ n → read-lets w ≡ none
-unfolding read-lets
-lets-short [] n h e k = refl
-lets-short (x ∷ w) n h e k = rw (numbers-none x w (omega arith))
-
 pub lets-bad : (w : List ℕ) (n i : ℕ) → n ≡ getD w 0 0 → n < length w → i < n → 251 < getD w (i + 1) 0 → read-lets w ≡ none
 unfolding read-lets
 lets-bad [] n i e k h g = refl
 lets-bad (x ∷ w) n i e k h g =
     let q : 251 < getD w i 0 = subst (λ y. 251 < y) (at-one (x ∷ w) i) g in
-    rw (numbers-some x w (omega arith), all-bad id-ok w i x (omega arith) (omega arith) (id-no _ q))
+    rw (numbers-some x w (omega arith), front-stop id-ok w i x (omega arith) (omega arith) (id-no _ q))
 
 pub lets-good : (p w : List ℕ) (n i : ℕ) {l : List ℕ} {at pos : ℕ} {m : List ℕ} → Lets p w i l at pos m → n ≡ getD w 0 0 → n < length w → i ≤ n → n ≤ i
     → Good (flat (let-line p)) (read-lets w) w l at (n + 1) pos m
@@ -138,13 +99,9 @@ pub place-is : (x : ℕ) → (x ≡ 65535 → ⊥) → leb x 251 ≡ place-ok (p
 unfolding id-ok
 place-is x e = sym (rw (ne-eqb x 65535 e) (leb·suc-suc x 251))
 
-pub places-short : (w : List ℕ) (n : ℕ) → length w < n → read-places n w ≡ none
-unfolding read-places
-places-short w n h = rw (numbers-none n w h)
-
 pub places-bad : (w : List ℕ) (n i : ℕ) → n ≤ length w → i < n → false ≡ place-ok (place-of (getD w i 0)) → read-places n w ≡ none
 unfolding read-places
-places-bad w n i k h e = rw (numbers-some n w k, all-map place-ok place-of (take n w), all-bad place-fine w i n h (omega arith) (sym e))
+places-bad w n i k h e = rw (numbers-some n w k, all-map place-ok place-of (take n w), front-stop place-fine w i n h (omega arith) (sym e))
 
 -- what stands before the places, and the places
 said : (s : List ℕ) → places-head (length s) ++ flat place-said s ≡ places-text (map place-of s)
@@ -169,32 +126,6 @@ places-good w n c i {l} {at} {p} {k} {pos} {m} e v t h a b =
     })
 
 -- PATTERN: three words, and the places
--- a reading that fails, whatever the test before it
-pub guard-none : {A B : Type 0} (t : Bool) (o : Option A) (f : A → Option B) → o ≡ none → (guarded t o >>= f) ≡ none
-guard-none true o f e = rw e
-guard-none false o f e = refl
-
-pub pattern-short : (w : List ℕ) → length w < 3 → read-pattern w ≡ none
-unfolding read-pattern
-pattern-short [] h = refl
-pattern-short (a ∷ []) h = refl
-pattern-short (a ∷ b ∷ []) h = refl
-pattern-short (a ∷ b ∷ x ∷ w) h = absurd (omega arith)
-
-pub pattern-bad : (w : List ℕ) → 3 ≤ length w → false ≡ pattern-ok (pattern-at (getD w 0 0) (signed (getD w 2 0)) (getD w 1 0)) → read-pattern w ≡ none
-unfolding read-pattern
-pattern-bad [] h e = absurd (omega arith)
-pattern-bad (a ∷ []) h e = absurd (omega arith)
-pattern-bad (a ∷ b ∷ []) h e = absurd (omega arith)
-pattern-bad (a ∷ b ∷ x ∷ w) h e = rw (← e)
-
-pub pattern-none : (w : List ℕ) → 3 ≤ length w → read-places (getD w 1 0) (drop 3 w) ≡ none → read-pattern w ≡ none
-unfolding read-pattern
-pattern-none [] h e = absurd (omega arith)
-pattern-none (a ∷ []) h e = absurd (omega arith)
-pattern-none (a ∷ b ∷ []) h e = absurd (omega arith)
-pattern-none (a ∷ b ∷ x ∷ w) h e = guard-none (pattern-ok (pattern-at a (signed x) b)) (read-places b w) _ e
-
 pub pattern-good : (p : List ℕ) (i : ℕ) (w : List ℕ) {n : ℕ} {l : List ℕ} {at a : ℕ} {k : List ℕ} {b : ℕ} {j : List ℕ} {r : ℕ} {m : List ℕ} → 3 ≤ length w
     → true ≡ pattern-ok (pattern-at (getD w 0 0) (signed (getD w 2 0)) (getD w 1 0)) → Writes l at (arm-head p i (getD w 0 0) (signed (getD w 2 0))) a k
     → Good places-text (read-places (getD w 1 0) (drop 3 w)) (drop 3 w) k a n b j → Writes j b (text "\n") r m → Good (pattern-text p i) (read-pattern w) w l at (n + 3) r m

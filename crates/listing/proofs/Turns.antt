@@ -9,10 +9,10 @@ use lib.Seq.{drop-drop}
 use Rattle.definition.specs.Tree.{Block, end, step, match, no-arms, arm}
 use Rattle.definition.specs.Read.{Reader, read-arm, read-arms, read-flow, read-step, read-steps, read-counted}
 use Rattle.definition.specs.Listing.{match-line, steps-text, flow-text, arms-text}
+use Rattle.walk.proofs.Readers.{id-yes, id-no}
 use Rattle.listing.specs.Writes.{Writes}
 use Rattle.listing.specs.Ends.{Good, step-text, arm-text}
 use Rattle.listing.proofs.Writing.{writes-none, writes-then, writes-as}
-use Rattle.listing.proofs.Reading.{id-yes, id-no}
 
 -- the whole is read from the rest, and its text is t
 pub record To {B : Type 0} (whole : B → List ℕ) (o : Option (B × List ℕ)) (r t : List ℕ) : Type 0 where

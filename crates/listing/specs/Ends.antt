@@ -4,7 +4,6 @@ use mathlib.Core.Bool.{Bool, true, false}
 use mathlib.Core.List.{List, [], _∷_, _++_}
 use mathlib.Core.Option.{Option, none, some}
 use Prim.Native.Nat.{ℕ, _≤_}
-use lib.IntN.{ℤ}
 use lib.ListN.{length, drop}
 use Rattle.definition.specs.Book.{Pattern}
 use Rattle.definition.specs.Tree.{Block, Flow}
@@ -51,9 +50,6 @@ pattern-text p i a = arm-line p i (a .0) (a .1)
 
 abbrev pub arm-text : List ℕ → ℕ → (Pattern × List (Option ℕ)) × Block → List ℕ
 arm-text p i a = pattern-text p i (a .0) ++ steps-text (p ++ (i ∷ [])) 1 (a .1)
-
-abbrev pub pattern-at : ℕ → ℤ → ℕ → Pattern
-pattern-at k z f = record { kind = k; number = z; fields = f }
 
 -- of a Return, whatever its nested blocks
 pub record Returns (p : List ℕ) (i : ℕ) (w l : List ℕ) (at : ℕ) (r : Seen) (m : List ℕ) : Type 0 where

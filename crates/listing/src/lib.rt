@@ -7,14 +7,12 @@ ghost use mathlib.Core.Path.{_≡_};
 ghost use Prim.Native.Nat.{_+_, _*_, _≤_};
 ghost use lib.ListN.{length, drop, replicate};
 ghost use Rattle.definition.specs.Lists.{flat};
-ghost use Rattle.definition.specs.Accept.{pattern-ok};
-ghost use Rattle.definition.specs.Tables.{signed};
 ghost use Rattle.definition.specs.Read.{place-of, place-ok as place-fine, read-lets, read-places, read-pattern, read-flow, read-arm, read-tagged, read-step, read-counted, read-block};
 ghost use Rattle.definition.specs.Listing.{let-line, places-text, steps-text, flow-text};
 ghost use Rattle.definition.specs.Answers.{listed};
-ghost use Rattle.listing.specs.Writes.{Room, numbers-of};
-ghost use Rattle.listing.specs.Ends.{Ends, Returns, Leaves, is-some, step-text, pattern-text, arm-text, pattern-at};
 ghost use Rattle.listing.specs.Determined.{list-determined};
+ghost use Rattle.listing.specs.Writes.{Room, numbers-of};
+ghost use Rattle.listing.specs.Ends.{Ends, Returns, Leaves, is-some, step-text, pattern-text, arm-text};
 
 // The greatest id of a site or a rule; how many blocks stand one inside another at most.
 const LAST: u32 = 251;
@@ -37,21 +35,6 @@ fn wide(x: u32) -> usize
     ensures { λ r. ⌜ r ≡ x ⌝ }
 {
     x as usize
-}
-
-// A pattern that a rule record may hold.
-fn pattern_ok(kind: u32, fields: u32, number: u32) -> bool
-    ensures { λ r. ⌜ r ≡ pattern-ok (pattern-at kind (signed number) fields) ⌝ }
-{
-    if kind < 2 {
-        fields == 0
-    } else if kind == 2 {
-        fields <= 4
-    } else if kind == 3 {
-        if fields == 1 { number == 0 } else { false }
-    } else {
-        false
-    }
 }
 
 // A place names a site or is empty.
@@ -114,7 +97,7 @@ fn pattern(w: &[u32], path: Path, i: u32, text: &mut [u8], at: usize) -> Seen
     if w.len() < 3 {
         return Seen::NoTree;
     }
-    if !pattern_ok(w[0], w[1], w[2]) {
+    if !walk::pattern_ok(w[0], w[1], w[2]) {
         return Seen::NoTree;
     }
     let first = line::put_arm(path, i, w[0], w[2], text, at);

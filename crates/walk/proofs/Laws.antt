@@ -3,7 +3,7 @@ use mathlib.Core.Path.{_≡_, refl, sym, ap, ap₂, subst, _∙_}
 use mathlib.Core.Bool.{Bool, true, false, _&&_}
 use mathlib.Core.List.{List, [], _∷_, _++_, map}
 use mathlib.Core.Option.{Option, none, some}
-use Prim.Native.Nat.{ℕ, zero, suc, _+_, _-_, _<_, _≤_, max}
+use Prim.Native.Nat.{ℕ, suc, _+_, _-_, _<_, _≤_, max}
 use native.Mathlib.Omega.{arith}
 use native.Mathlib.Numerals.{add-one}
 use mir.Syntax.{w32}
@@ -13,14 +13,15 @@ use lib.Dec.{eqb, ltb, leb, isEq}
 use lib.IntN.{ℤ, pos}
 use lib.ListN.{length, getD, take, drop, length-drop}
 use lib.Seq.{take-suc, getD-drop}
-use borrow.Author.Tests.{lt-leb, le-leb, lt-ltb, le-ltb, eq-eqb, ne-eqb, leb-true, leb-false, ltb-true, ltb-false}
+use borrow.Author.Tests.{lt-leb, le-leb, eq-eqb, ne-eqb, leb-true, leb-false, ltb-true, ltb-false}
 use Rattle.definition.specs.Lists.{all, compare-signed}
 use Rattle.definition.specs.Walk.{Hit, holds, placed-in}
-use Rattle.definition.specs.Read.{numbers, id-ok, place-ok, read-lets, read-places, place-of}
+use Rattle.definition.specs.Read.{id-ok, place-ok, read-lets, read-places, place-of}
 use Rattle.definition.specs.Tables.{signed}
 use Rattle.laws.specs.Tests.{and}
 use Rattle.laws.specs.Turns.{all-append, all-map, front-stop}
 use Rattle.laws.specs.Lending.{tail-part}
+use Rattle.walk.proofs.Readers.{numbers-some, id-yes, id-no}
 use Rattle.walk.specs.declared.Stop.{Stop}
 use Rattle.walk.specs.declared.Seen.{Seen}
 use Rattle.walk.specs.Ends.{above, Good, Ends, ends, never, Held}
@@ -34,16 +35,6 @@ module _ {A : Type 0} {names : A → List ℕ} {stop : A → Option Hit} {o : Op
   told-good e q = subst (ends names stop o w) q (e .is)
 
 -- NUMBERS
-pub numbers-some : (n : ℕ) (l : List ℕ) → n ≤ length l → numbers n l ≡ some (take n l, drop n l)
-numbers-some zero l h = refl
-numbers-some (suc n) [] h = absurd (omega arith)
-numbers-some (suc n) (x ∷ l) h = rw (numbers-some n l (omega arith))
-
-pub numbers-none : (n : ℕ) (l : List ℕ) → length l < n → numbers n l ≡ none
-numbers-none zero l h = absurd (omega arith)
-numbers-none (suc n) [] h = refl
-numbers-none (suc n) (x ∷ l) h = rw (numbers-none n l (omega arith))
-
 -- THE GREATEST ID
 pub above-append : (xs ys : List ℕ) → above (xs ++ ys) ≡ max (above xs) (above ys)
 unfolding above
@@ -74,14 +65,6 @@ upto-more {q} {f} {l} {i} {t} p fa u h e g =
       top = g ∙ (rw s (let z = fa (take i l) (getD l i 0) in omega (arith, z, p .top)));
     }
 
-pub id-yes : (x : ℕ) → x ≤ 251 → id-ok x ≡ true
-unfolding id-ok
-id-yes x h = lt-ltb x 252 (omega arith)
-
-pub id-no : (x : ℕ) → 251 < x → id-ok x ≡ false
-unfolding id-ok
-id-no x h = le-ltb x 252 (omega arith)
-
 above-snoc : (xs : List ℕ) (x : ℕ) → above (xs ++ (x ∷ [])) ≡ max (above xs) (above (x ∷ []))
 above-snoc xs x = above-append xs (x ∷ [])
 
@@ -103,16 +86,6 @@ at-one w i = getD-drop 1 w i 0 ∙ (let e : 1 + i ≡ i + 1 = omega arith in ap 
 pub lets-more : (w : List ℕ) (i t : ℕ) → Lets w i t → (u : ℕ) → i + 1 < length w → getD w (i + 1) 0 ≤ 251 → u ≡ max t (getD w (i + 1) 0 + 1) → Lets w (i + 1) u
 lets-more w i t p u h k e =
     upto-more p above-snoc u (simp length-drop (omega arith)) (id-yes _ (rw (at-one w i) k)) (e ∙ ap (max t) (sym (above-one (getD w (i + 1) 0)) ∙ ap (λ x. above (x ∷ [])) (sym (at-one w i))))
-
-pub lets-empty : (w : List ℕ) → length w ≡ 0 → read-lets w ≡ none
-unfolding read-lets
-lets-empty [] h = refl
-lets-empty (x ∷ w) h = absurd (omega arith)
-
-pub lets-short : (w : List ℕ) (n : ℕ) → 0 < length w → n ≡ getD w 0 0 → length w ≤ n → read-lets w ≡ none
-unfolding read-lets
-lets-short [] n h e k = refl
-lets-short (x ∷ w) n h e k = rw (numbers-none x w (omega arith))
 
 pub lets-bad : (w : List ℕ) (n i : ℕ) → n ≡ getD w 0 0 → n < length w → i < n → 251 < getD w (i + 1) 0 → read-lets w ≡ none
 unfolding read-lets
@@ -165,10 +138,6 @@ places-more w i t p u h k e =
     let n : eqb (getD w i 0) 65535 ≡ false = ne-eqb (getD w i 0) 65535 (λ q. omega arith) in
     upto-more p places-snoc u h (rw n (id-yes _ k)) (rw n (omega arith))
 
-pub places-short : (w : List ℕ) (n : ℕ) → length w < n → read-places n w ≡ none
-unfolding read-places
-places-short w n h = rw (numbers-none n w h)
-
 pub places-bad : (w : List ℕ) (n i : ℕ) → n ≤ length w → i < n → (getD w i 0 ≡ 65535 → ⊥) → 251 < getD w i 0 → read-places n w ≡ none
 unfolding read-places
 places-bad w n i k h g b =
@@ -202,9 +171,6 @@ held-short w k n s l = record { is = λ i f h. absurd (omega arith) }
 pub tail : {A : Type 0} {names : A → List ℕ} {stop : A → Option Hit} {r : Seen} (read : List ℕ → Option (A × List ℕ)) (w : List ℕ) (n : ℕ)
     → Ends names stop (read (take (length w - n) (drop n w))) (take (length w - n) (drop n w)) r → Ends names stop (read (drop n w)) (drop n w) r
 tail {A} {names} {stop} {r} read w n e = subst (λ v. Ends names stop (read v) v r) (tail-part w n) e
-
-pub sum-within : (w : List ℕ) (n m : ℕ) → n ≤ length w → m ≤ length (drop n w) → n + m ≤ length w
-sum-within w n m h k = omega (arith, length-drop n w)
 
 pub held-tail : {k : List ℕ} {z : List ℤ} {s : ℕ} {r : Bool} (w : List ℕ) (n : ℕ) → Held (take (length w - n) (drop n w)) k z s r → Held (drop n w) k z s r
 held-tail {k} {z} {s} {r} w n h = subst (λ v. Held v k z s r) (tail-part w n) h

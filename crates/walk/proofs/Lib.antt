@@ -1,3 +1,4 @@
+pub mod Readers
 mod Ints
 mod Laws
 mod Parts

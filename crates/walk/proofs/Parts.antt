@@ -3,52 +3,27 @@ use mathlib.Core.Path.{_≡_, refl, sym, ap, subst, _∙_}
 use mathlib.Core.Bool.{Bool, true, false, _&&_}
 use mathlib.Core.List.{List, [], _∷_}
 use mathlib.Core.Option.{Option, none}
-use Prim.Native.Nat.{ℕ, zero, suc, _+_, _-_, _<_, _≤_, max}
+use Prim.Native.Nat.{ℕ, suc, _+_, _-_, _<_, _≤_, max}
 use native.Mathlib.Omega.{arith}
-use lib.Dec.{eqb, ltb, leb}
+use lib.Dec.{eqb}
 use lib.IntN.{ℤ}
 use lib.ListN.{length, getD, take, drop, length-drop, length-take}
 use lib.Seq.{drop-drop}
-use borrow.Author.Tests.{lt-leb, le-leb, lt-ltb, le-ltb, eq-eqb, ne-eqb}
+use borrow.Author.Tests.{le-leb, lt-ltb, eq-eqb, ne-eqb}
 use Rattle.definition.specs.Lists.{if_then_else_}
 use Rattle.definition.specs.Accept.{pattern-ok}
 use Rattle.definition.specs.Tree.{Block, equal, return}
 use Rattle.definition.specs.Walk.{Reading, Hit, first-hit, hits, flow-hits, walk, agree, placed-in, sites-in, flow-sites}
-use Rattle.definition.specs.Read.{Reader, _>>=_, guarded, id-ok, read-lets, read-places, read-pattern, read-arm, read-flow, read-tagged, read-step, read-counted, read-framed, read-block}
+use Rattle.definition.specs.Read.{Reader, id-ok, read-lets, read-places, read-pattern, read-arm, read-flow, read-tagged, read-step, read-counted, read-framed, read-block}
 use Rattle.definition.specs.Tables.{signed}
 use Rattle.laws.specs.Answers.{and-false}
+use Rattle.walk.proofs.Readers.{id-yes, id-no, tagged, block-more}
 use Rattle.walk.specs.declared.Stop.{Stop}
 use Rattle.walk.specs.declared.Seen.{Seen}
 use Rattle.walk.specs.Ends.{above, Good, Ends, never, stop-of, Returns, pattern-at, pattern-names, arm-names, arm-stop, step-names, step-stop, flow-stop, reading}
-use Rattle.walk.proofs.Laws.{above-append, id-yes, id-no}
-
--- a reading that fails, whatever the test before it
-pub guard-none : {A B : Type 0} (t : Bool) (o : Option A) (f : A → Option B) → o ≡ none → (guarded t o >>= f) ≡ none
-guard-none true o f e = rw e
-guard-none false o f e = refl
+use Rattle.walk.proofs.Laws.{above-append}
 
 -- PATTERN: three words, and the places
-pub pattern-short : (w : List ℕ) → length w < 3 → read-pattern w ≡ none
-unfolding read-pattern
-pattern-short [] h = refl
-pattern-short (a ∷ []) h = refl
-pattern-short (a ∷ b ∷ []) h = refl
-pattern-short (a ∷ b ∷ x ∷ w) h = absurd (omega arith)
-
-pub pattern-bad : (w : List ℕ) → 3 ≤ length w → false ≡ pattern-ok (pattern-at (getD w 0 0) (signed (getD w 2 0)) (getD w 1 0)) → read-pattern w ≡ none
-unfolding read-pattern
-pattern-bad [] h e = absurd (omega arith)
-pattern-bad (a ∷ []) h e = absurd (omega arith)
-pattern-bad (a ∷ b ∷ []) h e = absurd (omega arith)
-pattern-bad (a ∷ b ∷ x ∷ w) h e = rw (← e)
-
-pub pattern-none : (w : List ℕ) → 3 ≤ length w → read-places (getD w 1 0) (drop 3 w) ≡ none → read-pattern w ≡ none
-unfolding read-pattern
-pattern-none [] h e = absurd (omega arith)
-pattern-none (a ∷ []) h e = absurd (omega arith)
-pattern-none (a ∷ b ∷ []) h e = absurd (omega arith)
-pattern-none (a ∷ b ∷ x ∷ w) h e = guard-none (pattern-ok (pattern-at a (signed x) b)) (read-places b w) _ e
-
 pub pattern-good : (w : List ℕ) (m t : ℕ) (p : Stop) → 3 ≤ length w → true ≡ pattern-ok (pattern-at (getD w 0 0) (signed (getD w 2 0)) (getD w 1 0))
     → Good placed-in never (read-places (getD w 1 0) (drop 3 w)) (drop 3 w) m t p → Good pattern-names never (read-pattern w) w (m + 3) t Stop.Nowhere
 unfolding read-pattern
@@ -59,11 +34,6 @@ pattern-good (a ∷ b ∷ x ∷ w) m t p h e g =
     let em : m + 3 ≡ suc (suc (suc m)) = omega arith in
     let gw : m ≤ length w = g .within in
     record { thing = (pattern-at a (signed x) b, g .thing); is = rw (← e, g .is, em); within = omega arith; top = g .top; met = refl }
-
--- ARM
-pub arm-none : (sub : Reader Block) (w : List ℕ) → read-pattern w ≡ none → read-arm sub w ≡ none
-unfolding read-arm
-arm-none sub w e = rw e
 
 pub arm-stops : (sub : Reader Block) (w : List ℕ) (n t : ℕ) (p : Stop) → Good pattern-names never (read-pattern w) w n t p → sub (drop n w) ≡ none → read-arm sub w ≡ none
 unfolding read-arm
@@ -81,10 +51,6 @@ arm-good d sub w n t m u x p q g k e = record {
 }
 
 -- STEP
-pub step-none : (sub : Reader Block) (w : List ℕ) → read-lets w ≡ none → read-step sub w ≡ none
-unfolding read-step
-step-none sub w e = rw e
-
 pub step-stops : (sub : Reader Block) (w : List ℕ) (n t : ℕ) (p : Stop) → Good (λ (l : List ℕ). l) never (read-lets w) w n t p → read-tagged sub (drop n w) ≡ none → read-step sub w ≡ none
 unfolding read-step
 step-stops sub w n t p g e = rw (g .is, e)
@@ -101,37 +67,6 @@ step-good d sub w n t m u x p q g k e = record {
 }
 
 -- FLOW: by its tag
-pub tagged : (sub : Reader Block) (w : List ℕ) (n : ℕ) → 3 ≤ length w → getD w 0 0 ≡ n → read-tagged sub w ≡ read-flow sub n (drop 1 w)
-unfolding read-tagged
-tagged sub [] n h e = absurd (omega arith)
-tagged sub (x ∷ w) n h e = rw e
-
-pub flow-short : (sub : Reader Block) (w : List ℕ) → length w < 3 → read-tagged sub w ≡ none
-unfolding read-tagged read-flow
-flow-short sub [] h = refl
-flow-short sub (zero ∷ []) h = refl
-flow-short sub (suc zero ∷ []) h = refl
-flow-short sub (suc (suc zero) ∷ []) h = refl
-flow-short sub (suc (suc (suc zero)) ∷ []) h = refl
-flow-short sub (suc (suc (suc (suc n))) ∷ []) h = refl
-flow-short sub (zero ∷ a ∷ []) h = refl
-flow-short sub (suc zero ∷ a ∷ []) h = refl
-flow-short sub (suc (suc zero) ∷ a ∷ []) h = refl
-flow-short sub (suc (suc (suc zero)) ∷ a ∷ []) h = refl
-flow-short sub (suc (suc (suc (suc n))) ∷ a ∷ []) h = refl
-flow-short sub (x ∷ a ∷ b ∷ w) h = absurd (omega arith)
-
-other : (sub : Reader Block) (n : ℕ) (w : List ℕ) → (n ≡ 0 → ⊥) → (n ≡ 1 → ⊥) → (n ≡ 3 → ⊥) → read-flow sub n w ≡ none
-unfolding read-flow
-other sub zero w a b x = absurd (a refl)
-other sub (suc zero) w a b x = absurd (b refl)
-other sub (suc (suc zero)) w a b x = refl
-other sub (suc (suc (suc zero))) w a b x = absurd (x refl)
-other sub (suc (suc (suc (suc n)))) w a b x = refl
-
-pub flow-other : (sub : Reader Block) (w : List ℕ) → 3 ≤ length w → (getD w 0 0 ≡ 0 → ⊥) → (getD w 0 0 ≡ 1 → ⊥) → (getD w 0 0 ≡ 3 → ⊥) → read-tagged sub w ≡ none
-flow-other sub w h a b x = tagged sub w (getD w 0 0) h refl ∙ other sub (getD w 0 0) (drop 1 w) a b x
-
 pub flow-is : (d : Reading) (sub : Reader Block) (w : List ℕ) (n : ℕ) (r : Seen) → 3 ≤ length w → getD w 0 0 ≡ n → Ends flow-sites (flow-stop d) (read-flow sub n (drop 1 w)) w r → Ends flow-sites (flow-stop d) (read-tagged sub w) w r
 flow-is d sub w n r h e k = subst (λ o. Ends flow-sites (flow-stop d) o w r) (sym (tagged sub w n h e)) k
 
@@ -177,26 +112,6 @@ return-good (t ∷ a ∷ b ∷ x ∷ w) h k l = record {
 }
 
 -- EQUAL
-pub pair-bad : (sub : Reader Block) (w : List ℕ) → 3 ≤ length w → ltb (getD w 1 0) (getD w 2 0) && id-ok (getD w 2 0) ≡ false → read-flow sub 1 (drop 1 w) ≡ none
-unfolding read-flow
-pair-bad sub [] h e = absurd (omega arith)
-pair-bad sub (t ∷ []) h e = absurd (omega arith)
-pair-bad sub (t ∷ a ∷ []) h e = absurd (omega arith)
-pair-bad sub (t ∷ a ∷ b ∷ w) h e = rw e
-
-pub pair-order : (sub : Reader Block) (w : List ℕ) → 3 ≤ length w → getD w 2 0 ≤ getD w 1 0 → read-flow sub 1 (drop 1 w) ≡ none
-pair-order sub w h k = pair-bad sub w h (rw (le-ltb (getD w 1 0) (getD w 2 0) k))
-
-pub pair-high : (sub : Reader Block) (w : List ℕ) → 3 ≤ length w → 251 < getD w 2 0 → read-flow sub 1 (drop 1 w) ≡ none
-pair-high sub w h k = pair-bad sub w h (rw (id-no (getD w 2 0) k) (and-false (ltb (getD w 1 0) (getD w 2 0))))
-
-pub pair-none : (sub : Reader Block) (w : List ℕ) → 3 ≤ length w → sub (drop 3 w) ≡ none → read-flow sub 1 (drop 1 w) ≡ none
-unfolding read-flow
-pair-none sub [] h e = absurd (omega arith)
-pair-none sub (t ∷ []) h e = absurd (omega arith)
-pair-none sub (t ∷ a ∷ []) h e = absurd (omega arith)
-pair-none sub (t ∷ a ∷ b ∷ w) h e = guard-none (ltb a b && id-ok b) (sub w) _ e
-
 pair-stop : (t : Bool) (q : Option Hit) (hs : List Hit) → q ≡ first-hit hs → if_then_else_ (true && t) q none ≡ first-hit (if_then_else_ t hs [])
 pair-stop true q hs e = e
 pair-stop false q hs e = refl
@@ -221,40 +136,9 @@ pair-good k z i sub (n ∷ a ∷ y ∷ w) m t x p q b h l u g e f s =
     }
 
 -- BLOCK
-pub block-deep : (n : ℕ) (w : List ℕ) → n ≡ 0 → read-block n w ≡ none
-unfolding read-block
-block-deep n w e = rw e
-
-block-more : (n : ℕ) (w : List ℕ) → (n ≡ 0 → ⊥) → read-block n w ≡ read-framed (read-block (n - 1)) w
-unfolding read-block
-block-more zero w h = absurd (h refl)
-block-more (suc n) w h = let e : suc n - 1 ≡ n = omega arith in rw e
-
-pub block-empty : (n : ℕ) (w : List ℕ) → length w ≡ 0 → read-block n w ≡ none
-unfolding read-block read-framed
-block-empty zero w h = refl
-block-empty (suc n) [] h = refl
-block-empty (suc n) (x ∷ w) h = absurd (omega arith)
-
-framed-long : (sub : Reader Block) (w : List ℕ) → 0 < length w → length w ≤ getD w 0 0 → read-framed sub w ≡ none
-unfolding read-framed
-framed-long sub [] h k = refl
-framed-long sub (x ∷ w) h k = rw (lt-leb x (length w) (omega arith))
-
-pub block-long : (n : ℕ) (w : List ℕ) → (n ≡ 0 → ⊥) → 0 < length w → length w ≤ getD w 0 0 → read-block n w ≡ none
-block-long n w z h k = block-more n w z ∙ framed-long (read-block (n - 1)) w h k
-
 -- the part that the code lends: as many words as the first one says
 pub inner-part : (w : List ℕ) (n : ℕ) → n ≡ getD w 0 0 → take (n + 1 - 1) (drop 1 w) ≡ take (getD w 0 0) (drop 1 w)
 inner-part w n e = let q : n + 1 - 1 ≡ getD w 0 0 = omega arith in ap (λ k. take k (drop 1 w)) q
-
-framed-none : (sub : Reader Block) (w : List ℕ) → 0 < length w → read-counted sub (take (getD w 0 0) (drop 1 w)) ≡ none → read-framed sub w ≡ none
-unfolding read-framed
-framed-none sub [] h e = refl
-framed-none sub (x ∷ w) h e = guard-none (leb x (length w)) (read-counted sub (take x w)) _ e
-
-pub block-none : (n : ℕ) (w : List ℕ) → (n ≡ 0 → ⊥) → 0 < length w → read-counted (read-block (n - 1)) (take (getD w 0 0) (drop 1 w)) ≡ none → read-block n w ≡ none
-block-none n w z h e = block-more n w z ∙ framed-none (read-block (n - 1)) w h e
 
 module _ (d : Reading) (sub : Reader Block) where
   framed-left : (w : List ℕ) (m t : ℕ) (p : Stop) → getD w 0 0 < length w → (m ≡ getD w 0 0 → ⊥)

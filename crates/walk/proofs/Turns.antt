@@ -16,8 +16,9 @@ use Rattle.definition.specs.Read.{Reader, _>>=_, guarded, read-places, read-pat
 use Rattle.definition.specs.Tables.{signed}
 use Rattle.walk.specs.declared.Stop.{Stop}
 use Rattle.walk.specs.Ends.{above, Good, stop-of, Held, pattern-at, arm-names, arm-stop, arms-stop, step-names, step-stop, flow-stop}
-use Rattle.walk.proofs.Laws.{above-append, id-yes, id-no}
+use Rattle.walk.proofs.Laws.{above-append}
 use Rattle.laws.specs.Firsts.{or-else, else-none, else-assoc, first-hit-append}
+use Rattle.walk.proofs.Readers.{id-yes, id-no}
 
 -- the whole is read from the rest: its top and its stop are these
 pub record To {B : Type 0} (names : B → List ℕ) (stop : B → Option Hit) (o : Option (B × List ℕ)) (r : List ℕ) (x : ℕ) (s : Option Hit) : Type 0 where

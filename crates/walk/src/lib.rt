@@ -95,7 +95,7 @@ fn number(w: u32) -> i32
 }
 
 // A pattern that a rule record may hold.
-fn pattern_ok(kind: u32, fields: u32, number: u32) -> bool
+pub fn pattern_ok(kind: u32, fields: u32, number: u32) -> bool
     ensures { λ r. ⌜ r ≡ pattern-ok (pattern-at kind (signed number) fields) ⌝ }
 {
     if kind < 2 {

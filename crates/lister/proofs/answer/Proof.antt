@@ -5,12 +5,6 @@ use Rattle.plan.proofs.Callers.{words-inside}
 use borrow.Author.Needs.{needs}
 use Rattle.lister.proofs.answer.Statement.{statement}
 use Rattle.lister.proofs.answer.Tie as tie
-use Rattle.lister.proofs.answer.Reads as reads
-use Rattle.lister.proofs.answer.Lts as lts
-use Rattle.lister.proofs.print_listing.Reads as print-listing-reads
-use Rattle.lister.proofs.refuse.Reads as refuse-reads
-use Rattle.lister.proofs.words_room.Reads as words-room-reads
-use Rattle.plan.proofs.plan.Reads as plan-reads
 
 -- src/main.rt:40:20
 words-room-requires : tie.Need-words-room-requires

@@ -5,12 +5,6 @@ use Rattle.listing.proofs.Callers.{bytes-inside}
 use borrow.Author.Needs.{needs}
 use Rattle.lister.proofs.print_listing.Statement.{statement}
 use Rattle.lister.proofs.print_listing.Tie as tie
-use Rattle.lister.proofs.print_listing.Reads as reads
-use Rattle.lister.proofs.print_listing.Lts as lts
-use Rattle.io.proofs.write_all.Reads as write-all-reads
-use Rattle.lister.proofs.refuse.Reads as refuse-reads
-use Rattle.lister.proofs.text_room.Reads as text-room-reads
-use Rattle.listing.proofs.list.Reads as list-reads
 
 -- src/main.rt:30:20
 text-room-requires : tie.Need-text-room-requires

@@ -4,8 +4,6 @@ use Prim.Native.Nat.{ℕ}
 use lib.ListN.{length-replicate}
 use Rattle.lister.proofs.text_room.Statement.{statement}
 use Rattle.lister.proofs.text_room.Tie as tie
-use Rattle.lister.proofs.text_room.Reads as reads
-use Rattle.lister.proofs.text_room.Lts as lts
 
 -- src/main.rt:17:1
 returns : tie.Need-returns

@@ -4,7 +4,8 @@ use native.Mathlib.Omega.{arith}
 use mathlib.Core.Path.{sym, _∙_}
 use lib.ListN.{getD, length-drop}
 use Rattle.definition.specs.Read.{read-places}
-use Rattle.listing.proofs.Reading.{tail, told-none, told-good, pattern-short, pattern-bad, pattern-none, pattern-good}
+use Rattle.walk.proofs.Readers.{pattern-short, pattern-bad, pattern-none}
+use Rattle.listing.proofs.Reading.{tail, told-none, told-good, pattern-good}
 use borrow.Author.Needs.{needs}
 use Rattle.listing.proofs.pattern.Statement.{statement}
 use Rattle.listing.proofs.pattern.Tie as tie
@@ -12,7 +13,7 @@ use Rattle.listing.proofs.pattern.Reads as reads
 use Rattle.listing.proofs.pattern.Lts as lts
 use Rattle.listing.proofs.line.put_arm.Reads as put-arm-reads
 use Rattle.listing.proofs.line.put_byte.Reads as put-byte-reads
-use Rattle.listing.proofs.pattern_ok.Reads as pattern-ok-reads
+use Rattle.walk.proofs.pattern_ok.Reads as pattern-ok-reads
 use Rattle.listing.proofs.places.Reads as places-reads
 
 -- src/lib.rt:116:9

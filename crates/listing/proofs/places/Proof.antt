@@ -5,7 +5,7 @@ use native.Mathlib.Omega.{arith}
 use mathlib.Core.Path.{_≡_, sym, _∙_}
 use Prim.Native.Nat.{_≤_, _-_}
 use lib.ListN.{length}
-use Rattle.listing.proofs.Reading.{Places, taken-starts, taken-turn, places-short, places-bad, places-good}
+use Rattle.listing.proofs.Reading.{Places, taken-starts, taken-turn, places-bad, places-good}
 use Rattle.listing.proofs.places.Statement.{statement}
 use Rattle.listing.proofs.places.Tie as tie
 use Rattle.listing.proofs.places.Reads as reads
@@ -14,6 +14,7 @@ use Rattle.listing.proofs.line.put_place.Reads as put-place-reads
 use Rattle.listing.proofs.line.put_places.Reads as put-places-reads
 use Rattle.listing.proofs.place_ok.Reads as place-ok-reads
 use Rattle.listing.proofs.wide.Reads as wide-reads
+use Rattle.walk.proofs.Readers.{places-short}
 
 abbrev Inv-loop : tie.InvT-loop
 Inv-loop w count text₀ at n pos₀ i₀ text pos i = Places w i text₀ pos₀ pos text × ((i ≤ n) × (length text ≡ length text₀))

@@ -2,9 +2,10 @@ use borrow.Author.Tests.{not-true, not-false}
 use mathlib.Core.Path.{sym, _∙_}
 use native.Mathlib.Omega.{arith}
 use Rattle.definition.specs.Read.{read-places}
+use Rattle.walk.proofs.Readers.{pattern-short, pattern-bad, pattern-none}
 use lib.ListN.{getD, length-drop}
 use Rattle.walk.proofs.Laws.{tail, told-none, told-good}
-use Rattle.walk.proofs.Parts.{pattern-short, pattern-bad, pattern-none, pattern-good}
+use Rattle.walk.proofs.Parts.{pattern-good}
 use borrow.Author.Needs.{needs}
 use Rattle.walk.proofs.pattern.Statement.{statement}
 use Rattle.walk.proofs.pattern.Tie as tie

@@ -1,8 +1,8 @@
-use Rattle.walk.proofs.Ints.{kind-low, kind-two, kind-three, kind-fields, kind-high}
 use Rattle.walk.proofs.pattern_ok.Statement.{statement}
 use Rattle.walk.proofs.pattern_ok.Tie as tie
 use Rattle.walk.proofs.pattern_ok.Reads as reads
 use Rattle.walk.proofs.pattern_ok.Lts as lts
+use Rattle.walk.proofs.Readers.{kind-low, kind-two, kind-three, kind-fields, kind-high}
 
 returns : tie.Need-returns
 returns c = let a = c .before .args in kind-low (a .kind) (a .fields) (a .number) (c .if1 .taken)

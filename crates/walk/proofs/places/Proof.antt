@@ -1,4 +1,4 @@
-use Rattle.walk.proofs.Laws.{Places, places-begin, places-empty, places-more, places-short, places-bad, places-good}
+use Rattle.walk.proofs.Laws.{Places, places-begin, places-empty, places-more, places-bad, places-good}
 use Prim.Native.Nat.{_≤_, _-_}
 use native.Mathlib.Omega.{arith}
 use borrow.Author.Needs.{needs}
@@ -8,6 +8,7 @@ use Rattle.walk.proofs.places.Reads as reads
 use Rattle.walk.proofs.places.Lts as lts
 use Rattle.walk.proofs.greater.Reads as greater-reads
 use Rattle.walk.proofs.wide.Reads as wide-reads
+use Rattle.walk.proofs.Readers.{places-short}
 
 abbrev Inv-loop : tie.InvT-loop
 Inv-loop w count n top₀ i₀ top i = (i ≤ n) × Places w i top

@@ -1,9 +1,10 @@
 -- What arm, arms have to show on their way.
-use Rattle.walk.proofs.Laws.{tail, held-tail, told-none, told-good, sum-within}
+use Rattle.walk.proofs.Laws.{tail, held-tail, told-none, told-good}
 use native.Mathlib.Omega.{arith}
 use Rattle.definition.specs.Read.{read-block, read-arm}
+use Rattle.walk.proofs.Readers.{sum-within, arm-none}
 use Rattle.walk.specs.Ends.{reading}
-use Rattle.walk.proofs.Parts.{arm-none, arm-stops, arm-good}
+use Rattle.walk.proofs.Parts.{arm-stops, arm-good}
 use Rattle.walk.proofs.Turns.{ArmsAt, arms-bad, arms-begin, arms-fail, arms-turn, arms-done}
 use Prim.Native.Nat.{ℕ, _-_}
 use borrow.Author.Needs.{needs}

@@ -5,8 +5,9 @@ use native.Mathlib.Omega.{arith}
 use lib.ListN.{length-drop}
 use Rattle.definition.specs.Read.{read-block, read-counted}
 use Rattle.definition.specs.Walk.{sites-in, walk}
+use Rattle.walk.proofs.Readers.{flow-short, flow-other, pair-order, pair-high, pair-none, block-deep, block-empty, block-long, block-none}
 use Rattle.walk.specs.Ends.{Ends, reading}
-use Rattle.walk.proofs.Parts.{flow-short, flow-other, flow-is, pair-order, pair-high, pair-none, pair-good, block-deep, block-empty, block-long, inner-part, block-none, block-left, block-good}
+use Rattle.walk.proofs.Parts.{flow-is, pair-good, inner-part, block-left, block-good}
 use Prim.Native.Nat.{ℕ, _-_}
 use borrow.Author.Needs.{needs}
 use borrow.Fn.PlainCycle.{is}

@@ -1,9 +1,10 @@
 -- What step, steps have to show on their way.
-use Rattle.walk.proofs.Laws.{tail, told-none, told-good, sum-within}
+use Rattle.walk.proofs.Laws.{tail, told-none, told-good}
 use native.Mathlib.Omega.{arith}
 use Rattle.definition.specs.Read.{read-block, read-tagged, read-step}
+use Rattle.walk.proofs.Readers.{sum-within, step-none}
 use Rattle.walk.specs.Ends.{reading}
-use Rattle.walk.proofs.Parts.{step-none, step-stops, step-good}
+use Rattle.walk.proofs.Parts.{step-stops, step-good}
 use Rattle.walk.proofs.Turns.{Steps, steps-empty, steps-begin, steps-stop, steps-turn, steps-done}
 use Prim.Native.Nat.{ℕ, _-_}
 use borrow.Author.Needs.{needs}
