@@ -10,9 +10,19 @@ use lib.Dec.{eqb}
 use lib.ListN.{getD, length, set, take, drop, replicate, length-append, length-set, length-replicate, getD-replicate}
 use lib.Seq.{set-at, append-snoc, ext-getD, getD-take, getD-set-same, getD-set-other, length-take-le}
 use borrow.Author.Tests.{eqb-true, eqb-false}
-use Rattle.definition.specs.Lists.{upto}
+use Rattle.definition.specs.Lists.{_is_, if_then_else_, upto}
 use Rattle.laws.specs.Ranges.{from-length, from-at}
 use Rattle.laws.specs.Tests.{split}
+
+-- v, or b where v is a
+abbrev pub relabel : ℕ → ℕ → ℕ → ℕ
+relabel a b v = if v is a then b else v
+
+-- an element of what f makes of a list
+pub map-inside : {A B : Type 0} (f : A → B) (l : List A) (k : ℕ) (d : A) (e : B) → k < length l → getD (map f l) k e ≡ f (getD l k d)
+map-inside f [] k d e h = absurd (omega arith)
+map-inside f (x ∷ xs) zero d e h = refl
+map-inside f (x ∷ xs) (suc k) d e h = map-inside f xs k d e (omega arith)
 
 -- the first i elements are replaced, the others are as they were
 abbrev pub mapped : {A : Type 0} → (A → A) → List A → ℕ → List A

@@ -6,11 +6,11 @@ use mathlib.Core.Option.{some}
 use mathlib.Core.List.{List, [], _∷_, _++_, map, List·Memᴰ, List·Memᴰ·head, List·Memᴰ·tail, List·Memᴰ·not-nil, List·Memᴰ·cases-cons, List·Memᴰ·append-cases, List·Memᴰ·eq-of-singleton, Memᴰ·append-left, Memᴰ·append-right}
 use Prim.Native.Nat.{ℕ, zero, suc, _+_, _≤_, _<_}
 use native.Mathlib.Omega.{arith}
-use lib.Dec.{eqb}
+use lib.Dec.{eqb, leb}
 use lib.ListN.{length, getD}
-use borrow.Author.Tests.{eqb-true, eqb-false}
+use borrow.Author.Tests.{eqb-true, eqb-false, leb-true, leb-false}
 use Rattle.definition.specs.Lists.{_is_, from, keep, filter, all, any, first, flat, heads}
-use Rattle.laws.specs.Tests.{split, both, and, not-both, one-of, or-left, or-right}
+use Rattle.laws.specs.Tests.{split, clash, both, and, not-both, one-of, or-left, or-right}
 
 -- ALL, ANY, FILTER
 module _ {A : Type 0} where
@@ -110,6 +110,17 @@ module _ {A : Type 0} (p q : A → Bool) (h : (x : A) → q x ≡ true → p x �
   keep-le true false x ys xs k l = absurd (false≢true (k refl))
   keep-le false true x ys xs k l = omega arith
   keep-le false false x ys xs k l = l
+
+  -- a filter within a wider one
+  pub filter-narrow : (xs : List A) → filter q (filter p xs) ≡ filter q xs
+  filter-narrow [] = refl
+  filter-narrow (x ∷ xs) = go (split (q x)) (split (p x)) (filter-narrow xs)
+    where
+      go : (q x ≡ true) ⊎ (q x ≡ false) → (p x ≡ true) ⊎ (p x ≡ false) → filter q (filter p xs) ≡ filter q xs → filter q (filter p (x ∷ xs)) ≡ filter q (x ∷ xs)
+      go (inl e) (inl f) rec = rw (f, e, rec)
+      go (inl e) (inr f) rec = clash (h x e) f
+      go (inr e) (inl f) rec = rw (f, e, rec)
+      go (inr e) (inr f) rec = rw (f, e, rec)
 
   pub filter-le : (xs : List A) → length (filter q xs) ≤ length (filter p xs)
   filter-le [] = omega arith
@@ -227,3 +238,10 @@ pub lone-list : (xs : List ℕ) → length xs ≡ 1 → (y z : ℕ) → List·Me
 lone-list [] e y z m n = absurd (omega arith)
 lone-list (x ∷ []) e y z m n = List·Memᴰ·eq-of-singleton m ∙ sym (List·Memᴰ·eq-of-singleton n)
 lone-list (x ∷ w ∷ xs) e y z m n = absurd (omega arith)
+
+pub two-members : (xs : List ℕ) (x y : ℕ) → List·Memᴰ x xs → List·Memᴰ y xs → (x ≡ y → ⊥) → 2 ≤ length xs
+two-members xs x y m k n = go (split (leb 2 (length xs)))
+  where
+    go : (leb 2 (length xs) ≡ true) ⊎ (leb 2 (length xs) ≡ false) → 2 ≤ length xs
+    go (inl e) = leb-true 2 (length xs) e
+    go (inr e) = absurd (n (lone-list xs (let a = leb-false 2 (length xs) e in let b = mem-length m in omega arith) x y m k))

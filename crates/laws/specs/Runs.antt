@@ -47,11 +47,11 @@ module _ {A B : Type 0} {xs : ℕ → List A} {g : ℕ → A} {n : ℕ} (r : Run
 abbrev pub one : Bool → ℕ
 one t = if t then 1 else 0
 
-one-le : (t : Bool) → one t ≤ 1
+pub one-le : (t : Bool) → one t ≤ 1
 one-le true = omega arith
 one-le false = omega arith
 
-one-kept : {A : Type 0} (t : Bool) (x : A) (xs : List A) → length (keep t x xs) ≡ one t + length xs
+pub one-kept : {A : Type 0} (t : Bool) (x : A) (xs : List A) → length (keep t x xs) ≡ one t + length xs
 one-kept true x xs = omega arith
 one-kept false x xs = omega arith
 

@@ -11,28 +11,26 @@ use Rattle.definition.specs.Lists.{_is_, _below_, if_then_else_}
 use Rattle.definition.specs.Book.{Pair, label, linked}
 use Rattle.definition.specs.Sets.{Class, unmerged, in-set, Sets, same-class, in-same-set, entered, enter, moved, move, join-classes, join, merge}
 use Rattle.laws.specs.Tests.{split, is-sym}
+use Rattle.laws.specs.Loops.{relabel}
 use Rattle.sets.specs.View.{class-of, read, Made}
 use Rattle.scope.specs.Classes.{label-in}
 
--- LABELS RENAMED: p becomes q
-abbrev renamed : ℕ → ℕ → ℕ → ℕ
-renamed p q w = if w is p then q else w
-
+-- LABELS RENAMED
 -- two labels are one after p is renamed q: they were, or one was p and the other q
-one-label : (p q m n : ℕ) → renamed p q m is renamed p q n ≡ m is n || ((m is p && n is q) || (m is q && n is p))
+one-label : (p q m n : ℕ) → relabel p q m is relabel p q n ≡ m is n || ((m is p && n is q) || (m is q && n is p))
 one-label p q m n = go (split (m is p)) (split (n is p))
   where
     go : (m is p ≡ true) ⊎ (m is p ≡ false) → (n is p ≡ true) ⊎ (n is p ≡ false)
-        → renamed p q m is renamed p q n ≡ m is n || ((m is p && n is q) || (m is q && n is p))
+        → relabel p q m is relabel p q n ≡ m is n || ((m is p && n is q) || (m is q && n is p))
     go (inl e) (inl f) = rw (e, f, eq-eqb q q refl, eq-eqb m n (eqb-true m p e ∙ sym (eqb-true n p f)))
     go (inl e) (inr f) = rw (e, f, and-false (m is q), or-false (n is q), ne-eqb m n (λ g. eqb-false n p f (sym g ∙ eqb-true m p e))) (is-sym q n)
     go (inr e) (inl f) = rw (e, f, and-true (m is q), ne-eqb m n (λ g. eqb-false m p e (g ∙ eqb-true n p f)))
     go (inr e) (inr f) = rw (e, f, and-false (m is q)) (sym (or-false (m is n)))
 
-renamed-same : (p w : ℕ) → renamed p p w ≡ w
+renamed-same : (p w : ℕ) → relabel p p w ≡ w
 renamed-same p w = go (split (w is p))
   where
-    go : (w is p ≡ true) ⊎ (w is p ≡ false) → renamed p p w ≡ w
+    go : (w is p ≡ true) ⊎ (w is p ≡ false) → relabel p p w ≡ w
     go (inl e) = rw e (sym (eqb-true w p e))
     go (inr e) = rw e
 
@@ -100,11 +98,11 @@ enter-rooted s x h z r k e = go (split (z is x)) (s z) refl
         (0, rw (← y, eq-eqb x x refl, ← w, g))
 
 -- a move renames the labels
-moved-label : (p q k z : ℕ) (c : Class) → (c ≡ unmerged → z ≡ p → ⊥) → label-in (moved p q k c) z ≡ renamed p q (label-in c z)
+moved-label : (p q k z : ℕ) (c : Class) → (c ≡ unmerged → z ≡ p → ⊥) → label-in (moved p q k c) z ≡ relabel p q (label-in c z)
 moved-label p q k z unmerged h = rw (ne-eqb z p (h refl))
 moved-label p q k z (in-set r j) h = go (split (r is p)) (split (r is q))
   where
-    go : (r is p ≡ true) ⊎ (r is p ≡ false) → (r is q ≡ true) ⊎ (r is q ≡ false) → label-in (moved p q k (in-set r j)) z ≡ renamed p q r
+    go : (r is p ≡ true) ⊎ (r is p ≡ false) → (r is q ≡ true) ⊎ (r is q ≡ false) → label-in (moved p q k (in-set r j)) z ≡ relabel p q r
     go (inl e) f = rw e
     go (inr e) (inl f) = rw (e, f) (sym (eqb-true r q f))
     go (inr e) (inr f) = rw (e, f)
@@ -124,7 +122,7 @@ module _ (t : Sets) (h : Rooted t) (x y a j b k : ℕ) (ex : t x ≡ in-set a j)
       let o : _≡_ {A = ℕ} 0 1 = cc in
       omega arith
 
-  move-label : (w p i q m z : ℕ) → t w ≡ in-set p i → label-in (move p q m t z) z ≡ renamed p q (tag z)
+  move-label : (w p i q m z : ℕ) → t w ≡ in-set p i → label-in (move p q m t z) z ≡ relabel p q (tag z)
   move-label w p i q m z e = moved-label p q m z (t z) (λ f g. not-root w p i z e f g)
 
   into-second : (m u v : ℕ) → label-in (move a b m t u) u is label-in (move a b m t v) v ≡ one-by tag a b u v

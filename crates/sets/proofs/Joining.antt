@@ -6,9 +6,10 @@ use native.Mathlib.Omega.{arith}
 use lib.ListN.{getD, length}
 use borrow.Author.Tests.{eq-eqb, ne-eqb, lt-ltb, le-ltb}
 use Rattle.definition.specs.Sets.{unmerged, in-set, move, join, join-classes}
+use Rattle.laws.specs.Loops.{relabel}
 use Rattle.sets.specs.declared.Store.{Store}
 use Rattle.sets.specs.View.{class-of, view, tally, Made, Holds}
-use Rattle.sets.specs.Entries.{relabel, Moves, Joinable}
+use Rattle.sets.specs.Entries.{Moves, Joinable}
 use Rattle.sets.proofs.Tallies.{tally-two}
 use Rattle.sets.proofs.Moving.{moves}
 

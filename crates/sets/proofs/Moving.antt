@@ -11,9 +11,10 @@ use lib.Seq.{getD-set-same, getD-set-other}
 use borrow.Author.Tests.{eq-eqb, ne-eqb}
 use Rattle.definition.specs.Lists.{_is_, if_then_else_}
 use Rattle.definition.specs.Sets.{unmerged, in-set, moved, move, remove}
+use Rattle.laws.specs.Loops.{relabel}
 use Rattle.sets.specs.declared.Store.{Store}
 use Rattle.sets.specs.View.{class-of, read, view, tally, Made, Holds}
-use Rattle.sets.specs.Entries.{relabel, has-entry}
+use Rattle.sets.specs.Entries.{has-entry}
 use Rattle.sets.proofs.Tallies.{tally-into, tally-else}
 use Rattle.sets.proofs.Members.{member-entry}
 

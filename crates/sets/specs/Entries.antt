@@ -5,16 +5,13 @@ use mathlib.Core.List.{List, map}
 use Prim.Native.Nat.{ℕ, _-_, _<_}
 use lib.ListN.{getD, length, set}
 use Rattle.definition.specs.Book.{most}
-use Rattle.definition.specs.Lists.{_is_, if_then_else_, upto, filter}
+use Rattle.definition.specs.Lists.{_is_, upto, filter}
 use Rattle.definition.specs.Sets.{unmerged}
+use Rattle.laws.specs.Loops.{relabel}
 use Rattle.sets.specs.declared.Store.{Store}
 use Rattle.sets.specs.declared.Listed.{Listed}
 use Rattle.sets.specs.View.{view, Made}
 use Rattle.sets.specs.Promises.{padded}
-
--- v, or b where v is a
-abbrev pub relabel : ℕ → ℕ → ℕ → ℕ
-relabel a b v = if v is a then b else v
 
 -- the entries a of `root` become b, and the root of b has rank k
 pub record Moves (s : Store) (a b k : ℕ) (r : Store) : Type 0 where

@@ -2,8 +2,7 @@
 use Prim.Native.Nat.{_≤_, _<_, _-_}
 use lib.ListN.{length}
 use borrow.Author.Needs.{needs}
-use Rattle.laws.specs.Loops.{Mapped, map-starts, map-turn, map-ends}
-use Rattle.sets.specs.Entries.{relabel}
+use Rattle.laws.specs.Loops.{Mapped, map-starts, map-turn, map-ends, relabel}
 use Rattle.sets.proofs.relabelled.Statement.{statement}
 use Rattle.sets.proofs.relabelled.Tie as tie
 
