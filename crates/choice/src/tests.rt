@@ -10,7 +10,7 @@ ghost use Rattle.definition.specs.Choice.{testable};
 ghost use Rattle.sets.specs.View.{same-root};
 ghost use Rattle.tables.specs.Held.{test-of};
 ghost use Rattle.order.specs.Parts.{Parts};
-ghost use Rattle.choice.specs.Worth.{open-at, state-at, count-of, code, worth-of};
+ghost use Rattle.choice.specs.Worth.{open-at, state-at, count-from, code, worth-from};
 
 // A test's worth has three parts: its count, its state (0 to 3), and how far its code is below the last, which no code exceeds.
 pub const LAST_CODE: usize = 65791;
@@ -32,12 +32,13 @@ fn more(had: bool, p: usize, top: usize, n: usize) -> usize
     n
 }
 
-// Internal: how many rules of the part a test counts: those that have it, less those that a higher rule without it bars.
-pub fn count(rules: &[u32], part: &[u8], a: usize, b: usize) -> usize
+// Internal: how many rules of the part a test counts: those that have it, less those that a higher rule without it
+// bars. `bar` is one more than the highest priority of such rules outside the part, or 0.
+pub fn count(rules: &[u32], part: &[u8], bar: usize, a: usize, b: usize) -> usize
     requires { ⌜ Parts (now rules) (now part) ⌝ }
-    ensures { λ r. ⌜ (r ≡ count-of (now (rules .entry)) (test-of a b) (now (part .entry))) × (r ≤ most) ⌝ }
+    ensures { λ r. ⌜ (r ≡ count-from (now (rules .entry)) (test-of a b) (now (part .entry)) bar) × (r ≤ most) ⌝ }
 {
-    let top = order::lacking(rules, part, a, b);
+    let top = greater(bar, order::lacking(rules, part, a, b));
     let mut n: usize = 0;
     let mut k: usize = 0;
     while k < part.len() {
@@ -133,12 +134,13 @@ pub fn of_test(
     states: &[u8; 252],
     root: &[u8; 252],
     part: &[u8],
+    bar: usize,
     a: usize,
     b: usize,
     best: usize,
 ) -> usize
     requires { ⌜ Parts (now rules) (now part) × ((a < most) × (b < most)) ⌝ }
-    ensures { λ r. ⌜ r ≡ max best (worth-of (now (rules .entry)) (now (states .entry)) (now (root .entry)) (now (part .entry)) (test-of a b)) ⌝ }
+    ensures { λ r. ⌜ r ≡ max best (worth-from (now (rules .entry)) (now (states .entry)) (now (root .entry)) (now (part .entry)) bar (test-of a b)) ⌝ }
 {
     if !is_open(states, root, a, b) {
         return best;
@@ -147,7 +149,7 @@ pub fn of_test(
     if part.len() * STATE_ROOM + tie <= best {
         return best;
     }
-    let n = count(rules, part, a, b);
+    let n = count(rules, part, bar, a, b);
     if n == 0 {
         return best;
     }
