@@ -1,5 +1,5 @@
 -- What the code's small answers are of tests and of their worth.
-use mathlib.Core.Path.{_≡_, sym, ap, subst, _∙_}
+use mathlib.Core.Path.{_≡_, refl, sym, ap, subst, _∙_}
 use mathlib.Core.Bool.{Bool, true, false, _&&_, not}
 use mathlib.Core.List.{List}
 use Prim.Native.Nat.{ℕ, _+_, _-_, _*_, _≤_, _<_, max}
@@ -16,7 +16,8 @@ use Rattle.laws.specs.Members.{filter-all}
 use Rattle.tables.specs.Held.{rank-of, test-of, Named}
 use Rattle.order.specs.Parts.{Names, rule-tests, lack-top, passes-top}
 use Rattle.sets.specs.View.{same-root}
-use Rattle.choice.specs.Worth.{open-at, state-at, count-of, count-from, last-code, code-room, state-room, code, key-of, worth, worth-of, worth-from, pair-worth, constraints-worth, pairs-worth, rank-above, top-of, rule-worth, part-worth}
+use Rattle.choice.specs.Worth.{open-at, state-at, count-of, count-from, last-code, code-room, state-room, code, key-of, worth, worth-of, worth-from, had-at, Tells, pair-worth, constraints-worth, pairs-worth, rank-above, top-of, rule-worth, part-worth}
+use Rattle.choice.specs.declared.tests.Told.{Told}
 
 module _ (st root : List ℕ) (a b : ℕ) where
   pub shut : testable st a ≡ false → false ≡ open-at st root (test-of a b)
@@ -92,10 +93,27 @@ module _ (w : Test → ℕ) (rules : List ℕ) (top i best : ℕ) {p : ℕ} (ep 
   unfolding rule-worth rank-above
   rule-low e = rw (ne-eqb (rank-of rules i + 1) top (λ z. e (ap (λ x. x + 1) ep ∙ z))) (omega arith)
 
--- a rule passes: its words say so
-pub passes-by : (rules : List ℕ) (t : Test) (top : ℕ) {x i : ℕ} → i ≡ x → {u : Bool} {p : ℕ} → u ≡ has (rule-at slots rules i) t → p ≡ rank-of rules i → u && leb top (p + 1) ≡ passes-top rules t top x
-unfolding passes-top rule-tests
-passes-by rules t top ei eu ep = rw (eu, ep, ei)
+-- a rule has the test, and passes: its words say so
+pub tests-by : (rules : List ℕ) (t : Test) {x i : ℕ} → i ≡ x → {u v : Bool} → u ≡ has (rule-at slots rules i) t → u ≡ v → rule-tests rules t x ≡ v
+unfolding rule-tests
+tests-by rules t ei eu ev = rw (← ei, ← eu, ev)
+
+module _ (rules : List ℕ) (t : Test) (part : List ℕ) where
+  pub had-yes : (k : ℕ) → rule-tests rules t (getD part k 0) ≡ true → 1 ≡ had-at rules t part k
+  unfolding had-at
+  had-yes k e = rw e
+
+  pub had-no : (k : ℕ) → rule-tests rules t (getD part k 0) ≡ false → 0 ≡ had-at rules t part k
+  unfolding had-at
+  had-no k e = rw e
+
+  pub passes-told : (top : ℕ) {r : Told} → Tells rules t part r → (k : ℕ) → k < length part → {i p : ℕ} → i ≡ getD part k 0 → p ≡ rank-of rules i → eqb (getD (r .had) k 0) 1 && leb top (p + 1) ≡ passes-top rules t top (getD part k 0)
+  unfolding passes-top had-at
+  passes-told top v k h ei ep = rw (v .marks k h, ep, ei) (go (rule-tests rules t (getD part k 0)))
+    where
+      go : (u : Bool) → eqb (if u then 1 else 0) 1 && leb top (rank-of rules (getD part k 0) + 1) ≡ u && leb top (rank-of rules (getD part k 0) + 1)
+      go true = refl
+      go false = refl
 
 pub counted-all : (rules : List ℕ) (t : Test) (part : List ℕ) (bar top n : ℕ) {lack : ℕ} → lack ≡ lack-top (rule-tests rules t) (rank-of rules) part → top ≡ max bar lack → n ≡ length (filter (passes-top rules t top) part) → n ≡ count-from rules t part bar
 unfolding count-from

@@ -17,7 +17,7 @@ use Rattle.definition.specs.Tables.{rule-word, rule-at}
 use Rattle.laws.specs.Ascending.{mem-index}
 use Rattle.laws.specs.Greatest.{greatest-same}
 use Rattle.laws.specs.Members.{filter-in, filter-from, mem-length, lone-list, mem-map-of, from-bounds, getD-mem, filter-all}
-use Rattle.laws.specs.Runs.{in-slots, in-slice}
+use Rattle.laws.specs.Runs.{in-slots, in-slice, one}
 use Rattle.laws.specs.Tests.{split, clash, both}
 use Rattle.tables.specs.Held.{Held, Named, rank-of, end-slot}
 use Rattle.tables.proofs.Ends.{linked-flip, linked-end, end-stands}
@@ -147,6 +147,14 @@ mark-turn {rules} {i} {k} {marks} v {e} f h = record { long = length-set marks e
         let d : j ≡ k → ⊥ = λ z. s (ap (end-slot rules i) z ∙ sym f) in
         getD-set-other marks e (end-slot rules i j) 1 0 s ∙ v .so-far j (omega (arith, d))
 
+one-le : (t : Bool) → one t ≤ 1
+one-le true = omega arith
+one-le false = omega arith
+
+one-kept : (t : Bool) (x : ℕ) (xs : List ℕ) → length (keep t x xs) ≡ one t + length xs
+one-kept true x xs = omega arith
+one-kept false x xs = omega arith
+
 -- m of the first k ends are marked
 pub record MarkTold (marks : List ℕ) (g : ℕ → ℕ) (n k m : ℕ) : Type 0 where
   pub few : m ≤ k
@@ -156,19 +164,12 @@ pub told-starts : (marks : List ℕ) (g : ℕ → ℕ) (n : ℕ) → MarkTold ma
 told-starts marks g n = record { few = omega arith; is = omega arith }
 
 module _ {marks : List ℕ} {g : ℕ → ℕ} {n k m : ℕ} (v : MarkTold marks g n k m) where
-  pub told-hit : k < n → {e : ℕ} → e ≡ g k → getD marks e 0 ≡ 1 → MarkTold marks g n (k + 1) (m + 1)
+  pub told-turn : k < n → {e : ℕ} {u : Bool} {r : ℕ} → e ≡ g k → u ≡ eqb (getD marks e 0) 1 → r ≡ m + one u → MarkTold marks g n (k + 1) r
   unfolding is-marked
-  told-hit h {e} f t =
-      let y : is-marked marks (g k) ≡ true = eq-eqb (getD marks (g k) 0) 1 (ap (λ z. getD marks z 0) (sym f) ∙ t) in
-      let z : filter (is-marked marks) (map g (from k (n - k))) ≡ g k ∷ filter (is-marked marks) (map g (from (k + 1) (n - (k + 1)))) = rw (in-slots g n .more k h, y) in
-      record { few = omega (arith, v .few); is = omega (arith, v .is, ap length z) }
-
-  pub told-miss : k < n → {e : ℕ} → e ≡ g k → (getD marks e 0 ≡ 1 → ⊥) → MarkTold marks g n (k + 1) m
-  unfolding is-marked
-  told-miss h {e} f t =
-      let y : is-marked marks (g k) ≡ false = ne-eqb (getD marks (g k) 0) 1 (λ q. t (ap (λ z. getD marks z 0) f ∙ q)) in
-      let z : filter (is-marked marks) (map g (from k (n - k))) ≡ filter (is-marked marks) (map g (from (k + 1) (n - (k + 1)))) = rw (in-slots g n .more k h, y) in
-      record { few = omega (arith, v .few); is = omega (arith, v .is, ap length z) }
+  told-turn h {e} {u} f t q =
+      let y : one u ≡ one (is-marked marks (g k)) = ap one (t ∙ ap (λ z. eqb (getD marks z 0) 1) f) in
+      let z : length (filter (is-marked marks) (map g (from k (n - k)))) ≡ one (is-marked marks (g k)) + length (filter (is-marked marks) (map g (from (k + 1) (n - (k + 1))))) = rw (in-slots g n .more k h) (one-kept (is-marked marks (g k)) (g k) (filter (is-marked marks) (map g (from (k + 1) (n - (k + 1)))))) in
+      record { few = omega (arith, v .few, one-le u); is = omega (arith, v .is, z) }
 
 pub told-ends : (rules marks : List ℕ) (j : ℕ) {n k m w : ℕ} → MarkTold marks (end-slot rules j) n k m → n ≤ k → w ≡ rule-word slots rules j 4 → n ≡ 2 * w → m ≡ marked-ends rules marks j
 unfolding marked-ends

@@ -18,6 +18,7 @@ use Rattle.tables.specs.Held.{rank-of, site-slot, end-slot}
 use Rattle.order.specs.Parts.{Names, rule-tests, lack-top, passes-top}
 use Rattle.choice.specs.declared.Best.{Best}
 use Rattle.choice.specs.declared.Near.{Near}
+use Rattle.choice.specs.declared.tests.Told.{Told}
 
 unfoldable pub open-at : List ℕ → List ℕ → Test → Bool
 open-at st root (on s) = testable st s
@@ -34,6 +35,15 @@ count-of rules t part = length (filter (passes-top rules t (lack-top (rule-tests
 -- the same of a part beside which other rules raise the bar
 unfoldable pub count-from : List ℕ → Test → List ℕ → ℕ → ℕ
 count-from rules t part bar = length (filter (passes-top rules t (max bar (lack-top (rule-tests rules t) (rank-of rules) part))) part)
+
+-- 1 where the rule at k of the part has the test
+unfoldable pub had-at : List ℕ → Test → List ℕ → ℕ → ℕ
+had-at rules t part k = if rule-tests rules t (getD part k 0) then 1 else 0
+
+-- which rules of the part have the test, and how high the others are
+pub record Tells (rules : List ℕ) (t : Test) (part : List ℕ) (r : Told) : Type 0 where
+  pub marks : (k : ℕ) → k < length part → getD (r .had) k 0 ≡ had-at rules t part k
+  pub raises : r .top ≡ lack-top (rule-tests rules t) (rank-of rules) part
 
 -- tests in the order of the last tie; no code is above the last
 abbrev pub last-code : ℕ

@@ -6,6 +6,7 @@ use tests::CODE_ROOM;
 use tests::LAST_CODE;
 use tests::greater;
 use tests::of_test;
+use tests::one_more;
 ghost use mathlib.Core.Path.{_≡_};
 ghost use Prim.Native.Nat.{_<_, max};
 ghost use Rattle.definition.specs.Book.{most, slots};
@@ -147,12 +148,8 @@ fn marked(rules: &[u32], marks: &[u8; 252], j: usize) -> usize
     let mut m: usize = 0;
     let mut k: usize = 0;
     while k < n {
-        if marks[tables::rule_id(rules, j, 22 + k)] == 1 {
-            m += 1;
-            k += 1;
-        } else {
-            k += 1;
-        }
+        m = one_more(marks[tables::rule_id(rules, j, 22 + k)] == 1, m);
+        k += 1;
     }
     m
 }

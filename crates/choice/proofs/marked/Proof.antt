@@ -1,10 +1,10 @@
 -- The loop's invariant: m of the first k ends are marked.
-use Prim.Native.Nat.{_-_, _≤_}
 use mathlib.Core.Path.{refl}
+use Prim.Native.Nat.{_-_, _≤_}
 use native.Mathlib.Omega.{arith}
 use borrow.Author.Needs.{needs}
 use Rattle.tables.specs.Held.{end-slot}
-use Rattle.choice.proofs.Nearby.{MarkTold, told-starts, told-hit, told-miss, told-ends}
+use Rattle.choice.proofs.Nearby.{MarkTold, told-starts, told-turn, told-ends}
 use Rattle.choice.proofs.marked.Statement.{statement}
 use Rattle.choice.proofs.marked.Tie as tie
 
@@ -29,11 +29,11 @@ add-rule-id c = search needs
 rule-id-requires-2 : tie.Need-rule-id-requires-2 Inv-loop μ-loop
 rule-id-requires-2 c κs = search needs
 
-element-copy-out-if1 : tie.Need-element-copy-out-if1 Inv-loop μ-loop
-element-copy-out-if1 c = let p = c .before .before .before .before .before .pre in omega (arith, c .rule-id2 .ensures, p .1 .ends (c .before .before .loop .k) (omega (arith, c .before .loop-test .taken, c .before .before .before .rule-id .ensures)))
+element-copy-out-one-more : tie.Need-element-copy-out-one-more Inv-loop μ-loop
+element-copy-out-one-more c = let p = c .before .before .before .before .before .pre in omega (arith, c .rule-id2 .ensures, p .1 .ends (c .before .before .loop .k) (omega (arith, c .before .loop-test .taken, c .before .before .before .rule-id .ensures)))
 
-add-m : tie.Need-add-m Inv-loop μ-loop
-add-m c = let g = c .before .before .before .before .loop .inv in omega (arith, g .0, g .1 .few, c .before .before .before .loop-test .taken)
+one-more-requires : tie.Need-one-more-requires Inv-loop μ-loop
+one-more-requires c κs = let g = c .before .before .before .loop .inv in omega (arith, g .0, g .1 .few, c .before .before .loop-test .taken)
 
 add-k : tie.Need-add-k Inv-loop μ-loop
 add-k c = search needs
@@ -42,16 +42,7 @@ loop-less : tie.Need-loop-less Inv-loop μ-loop
 loop-less c = search needs
 
 loop-again : tie.Need-loop-again Inv-loop μ-loop
-loop-again c = let g = c .before .before .before .before .loop .inv in (g .0, told-hit (g .1) (c .before .before .before .loop-test .taken) (c .before .before .rule-id2 .ensures) (c .if1 .taken))
-
-add-k-2 : tie.Need-add-k-2 Inv-loop μ-loop
-add-k-2 c = search needs
-
-loop-less-2 : tie.Need-loop-less-2 Inv-loop μ-loop
-loop-less-2 c = search needs
-
-loop-again-2 : tie.Need-loop-again-2 Inv-loop μ-loop
-loop-again-2 c = let g = c .before .before .before .before .loop .inv in (g .0, told-miss (g .1) (c .before .before .before .loop-test .taken) (c .before .before .rule-id2 .ensures) (c .if1 .left))
+loop-again c = let g = c .before .before .before .before .loop .inv in (g .0, told-turn (g .1) (c .before .before .before .loop-test .taken) (c .before .before .rule-id2 .ensures) refl (c .one-more .ensures))
 
 returns : tie.Need-returns Inv-loop μ-loop
 returns c = told-ends _ _ _ (c .before .loop .inv .1) (c .loop-test .left) (c .before .before .rule-id .ensures) refl
@@ -67,12 +58,9 @@ marked-spec =
     loop-holds
     add-rule-id
     rule-id-requires-2
-    element-copy-out-if1
-    add-m
+    element-copy-out-one-more
+    one-more-requires
     add-k
     loop-less
     loop-again
-    add-k-2
-    loop-less-2
-    loop-again-2
     returns)
