@@ -9,8 +9,8 @@ use native.Mathlib.Numerals.{add-one}
 use lib.Dec.{eqb, ltb, leb}
 use lib.ListN.{length, getD, set, take, drop, length-set}
 use lib.Seq.{append-snoc, take-suc, take-set-le, getD-set-same, getD-set-other}
-use borrow.Author.Tests.{eqb-true, eqb-false, eq-eqb, ne-eqb, leb-true, leb-false, le-leb, lt-leb, ltb-true}
-use Rattle.definition.specs.Book.{most, slots, Rule, linked}
+use borrow.Author.Tests.{eqb-true, eqb-false, eq-eqb, leb-true, leb-false, le-leb, lt-leb, ltb-true}
+use Rattle.definition.specs.Book.{slots, linked}
 use Rattle.definition.specs.Choice.{Test, has, on, same}
 use Rattle.definition.specs.Lists.{upto, from, filter, keep, each}
 use Rattle.definition.specs.Tables.{rule-word, rule-at}
@@ -19,7 +19,7 @@ use Rattle.laws.specs.Greatest.{greatest-same}
 use Rattle.laws.specs.Members.{filter-in, filter-from, mem-length, lone-list, mem-map-of, from-bounds, getD-mem, filter-all}
 use Rattle.laws.specs.Runs.{in-slots, in-slice, one}
 use Rattle.laws.specs.Tests.{split, clash, both}
-use Rattle.tables.specs.Held.{Held, Named, rank-of, end-slot}
+use Rattle.tables.specs.Held.{Held, rank-of, end-slot}
 use Rattle.tables.proofs.Ends.{linked-flip, linked-end, end-stands}
 use Rattle.order.specs.Parts.{Parts, raised, raise, rule-tests, lack-top, passes-top}
 use Rattle.choice.specs.Worth.{count-of, count-from, worth, worth-of, worth-from, pair-worth, end-worth, pairs-worth, Marks, is-marked, marked-ends, is-near, Nears}

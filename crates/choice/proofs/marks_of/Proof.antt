@@ -1,6 +1,6 @@
 -- The loop's invariant: the first k ends are marked.
 use mathlib.Core.Path.{refl}
-use Prim.Native.Nat.{_-_, _≤_}
+use Prim.Native.Nat.{_-_}
 use native.Mathlib.Omega.{arith}
 use borrow.Author.Needs.{needs}
 use Rattle.choice.proofs.Nearby.{Marking, mark-turn}

@@ -1,9 +1,8 @@
 -- The loop's invariant: none of the first k ends is x.
-use mathlib.Core.Path.{_≡_, sym, _∙_}
-use Prim.Native.Nat.{ℕ, _-_, _*_, _≤_, _<_}
+use mathlib.Core.Path.{sym, _∙_}
+use Prim.Native.Nat.{_-_, _≤_}
 use native.Mathlib.Omega.{arith}
 use borrow.Author.Needs.{needs}
-use Rattle.tables.specs.Held.{end-slot}
 use Rattle.tables.proofs.Ends.{Passed, pass-starts, pass-turn, no-end}
 use Rattle.tables.proofs.end_of.Statement.{statement}
 use Rattle.tables.proofs.end_of.Tie as tie
