@@ -1,5 +1,5 @@
 -- What the code's small answers are of tests and of their worth.
-use mathlib.Core.Path.{_≡_, sym, ap, subst, _∙_}
+use mathlib.Core.Path.{_≡_, refl, sym, ap, subst, _∙_}
 use mathlib.Core.Bool.{Bool, true, false, _&&_, not}
 use mathlib.Core.List.{List}
 use Prim.Native.Nat.{ℕ, _+_, _-_, _*_, _≤_, _<_, max}
@@ -16,7 +16,8 @@ use Rattle.laws.specs.Members.{filter-all}
 use Rattle.tables.specs.Held.{rank-of, test-of, Named}
 use Rattle.order.specs.Parts.{Names, rule-tests, lack-top, passes-top}
 use Rattle.sets.specs.View.{same-root}
-use Rattle.choice.specs.Worth.{open-at, state-at, count-of, last-code, code-room, state-room, code, key-of, worth, worth-of, pair-worth, constraints-worth, pairs-worth, rank-above, top-of, rule-worth, part-worth}
+use Rattle.choice.specs.Worth.{open-at, state-at, count-of, count-from, last-code, code-room, state-room, code, key-of, worth, worth-of, worth-from, had-at, Tells, pair-worth, constraints-worth, pairs-worth, rank-above, top-of, rule-worth, part-worth}
+use Rattle.choice.specs.declared.tests.Told.{Told}
 
 module _ (st root : List ℕ) (a b : ℕ) where
   pub shut : testable st a ≡ false → false ≡ open-at st root (test-of a b)
@@ -35,13 +36,13 @@ module _ (st root : List ℕ) (a b : ℕ) where
   unfolding open-at
   open-two e z et er ec = rw (ne-eqb b 0 z, e, er, et, ec)
 
-module _ (rules st root part : List ℕ) (t : Test) (best : ℕ) where
-  pub test-shut : open-at st root t ≡ false → best ≡ max best (worth-of rules st root part t)
-  unfolding worth-of worth
+module _ (rules st root part : List ℕ) (bar : ℕ) (t : Test) (best : ℕ) where
+  pub test-shut : open-at st root t ≡ false → best ≡ max best (worth-from rules st root part bar t)
+  unfolding worth-from worth
   test-shut e = rw e (omega arith)
 
-  pub test-none : open-at st root t ≡ true → count-of rules t part ≡ 0 → best ≡ max best (worth-of rules st root part t)
-  unfolding worth-of worth
+  pub test-none : open-at st root t ≡ true → count-from rules t part bar ≡ 0 → best ≡ max best (worth-from rules st root part bar t)
+  unfolding worth-from worth
   test-none e z = rw (e, z) (omega arith)
 
   module _ (e : open-at st root t ≡ true) {s c : ℕ} (es : s ≡ state-at st t) (ec : c ≡ code t) where
@@ -49,10 +50,10 @@ module _ (rules st root part : List ℕ) (t : Test) (best : ℕ) where
     unfolding key-of
     key-parts n = rw (← es, ← ec) (omega arith)
 
-    worth-le : worth-of rules st root part t ≤ length part * state-room + (s * code-room + (last-code - c))
-    unfolding worth-of worth count-of
+    worth-le : worth-from rules st root part bar t ≤ length part * state-room + (s * code-room + (last-code - c))
+    unfolding worth-from worth count-from
     worth-le =
-        let p : ℕ → Bool = passes-top rules t (lack-top (rule-tests rules t) (rank-of rules) part) in
+        let p : ℕ → Bool = passes-top rules t (max bar (lack-top (rule-tests rules t) (rank-of rules) part)) in
         let n = length (filter p part) in
         let z = filter-all p part in
         let y = key-parts (length (filter p part)) in
@@ -63,11 +64,11 @@ module _ (rules st root part : List ℕ) (t : Test) (best : ℕ) where
         go false h = omega arith
 
     -- counting every rule would not be better
-    pub test-behind : length part * state-room + (s * code-room + (last-code - c)) ≤ best → best ≡ max best (worth-of rules st root part t)
+    pub test-behind : length part * state-room + (s * code-room + (last-code - c)) ≤ best → best ≡ max best (worth-from rules st root part bar t)
     test-behind h = let z = worth-le in omega arith
 
-    pub test-some : {n : ℕ} → n ≡ count-of rules t part → (n ≡ 0 → ⊥) → n * state-room + (s * code-room + (last-code - c)) ≡ worth-of rules st root part t
-    unfolding worth-of worth
+    pub test-some : {n : ℕ} → n ≡ count-from rules t part bar → (n ≡ 0 → ⊥) → n * state-room + (s * code-room + (last-code - c)) ≡ worth-from rules st root part bar t
+    unfolding worth-from worth
     test-some {n} en z = rw (e, ← en, lt-ltb 0 n (omega arith)) (sym (key-parts n))
 
 module _ (w : Test → ℕ) (r : Rule) (x y : ℕ) where
@@ -92,14 +93,39 @@ module _ (w : Test → ℕ) (rules : List ℕ) (top i best : ℕ) {p : ℕ} (ep 
   unfolding rule-worth rank-above
   rule-low e = rw (ne-eqb (rank-of rules i + 1) top (λ z. e (ap (λ x. x + 1) ep ∙ z))) (omega arith)
 
--- a rule passes: its words say so
-pub passes-by : (rules : List ℕ) (t : Test) (top : ℕ) {x i : ℕ} → i ≡ x → {u : Bool} {p : ℕ} → u ≡ has (rule-at slots rules i) t → p ≡ rank-of rules i → u && leb top (p + 1) ≡ passes-top rules t top x
-unfolding passes-top rule-tests
-passes-by rules t top ei eu ep = rw (eu, ep, ei)
+-- a rule has the test, and passes: its words say so
+pub tests-by : (rules : List ℕ) (t : Test) {x i : ℕ} → i ≡ x → {u v : Bool} → u ≡ has (rule-at slots rules i) t → u ≡ v → rule-tests rules t x ≡ v
+unfolding rule-tests
+tests-by rules t ei eu ev = rw (← ei, ← eu, ev)
 
-pub counted-all : (rules : List ℕ) (t : Test) (part : List ℕ) (top n : ℕ) → top ≡ lack-top (rule-tests rules t) (rank-of rules) part → n ≡ length (filter (passes-top rules t top) part) → n ≡ count-of rules t part
-unfolding count-of
-counted-all rules t part top n e en = en ∙ ap (λ z. length (filter (passes-top rules t z) part)) e
+module _ (rules : List ℕ) (t : Test) (part : List ℕ) where
+  pub had-yes : (k : ℕ) → rule-tests rules t (getD part k 0) ≡ true → 1 ≡ had-at rules t part k
+  unfolding had-at
+  had-yes k e = rw e
+
+  pub had-no : (k : ℕ) → rule-tests rules t (getD part k 0) ≡ false → 0 ≡ had-at rules t part k
+  unfolding had-at
+  had-no k e = rw e
+
+  pub passes-told : (top : ℕ) {r : Told} → Tells rules t part r → (k : ℕ) → k < length part → {i p : ℕ} → i ≡ getD part k 0 → p ≡ rank-of rules i → eqb (getD (r .had) k 0) 1 && leb top (p + 1) ≡ passes-top rules t top (getD part k 0)
+  unfolding passes-top had-at
+  passes-told top v k h ei ep = rw (v .marks k h, ep, ei) (go (rule-tests rules t (getD part k 0)))
+    where
+      go : (u : Bool) → eqb (if u then 1 else 0) 1 && leb top (rank-of rules (getD part k 0) + 1) ≡ u && leb top (rank-of rules (getD part k 0) + 1)
+      go true = refl
+      go false = refl
+
+pub counted-all : (rules : List ℕ) (t : Test) (part : List ℕ) (bar top n : ℕ) {lack : ℕ} → lack ≡ lack-top (rule-tests rules t) (rank-of rules) part → top ≡ max bar lack → n ≡ length (filter (passes-top rules t top) part) → n ≡ count-from rules t part bar
+unfolding count-from
+counted-all rules t part bar top n f e en = en ∙ ap (λ z. length (filter (passes-top rules t z) part)) (e ∙ ap (max bar) f)
+
+-- with no other rules beside the part
+pub worth-alone : (rules st root part : List ℕ) (t : Test) → worth-from rules st root part 0 t ≡ worth-of rules st root part t
+unfolding worth-from worth-of count-from count-of
+worth-alone rules st root part t =
+    let l = lack-top (rule-tests rules t) (rank-of rules) part in
+    let z : max 0 l ≡ l = omega arith in
+    ap (λ k. worth (open-at st root t) (length (filter (passes-top rules t k) part)) (state-at st t) t) z
 
 pub named-at : {rules part : List ℕ} → Names most rules part → (k : ℕ) → k < length part → {i : ℕ} → i ≡ getD part k 0 → Named most rules i
 named-at {rules} p k h e = subst (Named most rules) (sym e) (p .named k h)

@@ -5,10 +5,10 @@ use mathlib.Core.Bool.{Bool, _&&_, _||_, not}
 use mathlib.Core.List.{List, map}
 use mathlib.Core.Option.{Option, none, some}
 use Prim.Native.Nat.{ℕ, _+_, _-_, _*_, _/_, _%_, _≤_, _<_, max, min}
-use lib.ListN.{length, getD}
+use lib.ListN.{length, getD, take}
 use Rattle.definition.specs.Book.{most, slots, Pair, Rule, linked}
 use Rattle.definition.specs.Choice.{Test, testable, choice, on, same}
-use Rattle.definition.specs.Lists.{_is_, _below_, if_then_else_, upto, filter}
+use Rattle.definition.specs.Lists.{_is_, _below_, _at-most_, if_then_else_, upto, filter}
 use Rattle.definition.specs.Scope.{matched, state}
 use Rattle.definition.specs.Tables.{rule-word, rule-at, book-of}
 use Rattle.laws.specs.Ascending.{asc, Within, Distinct}
@@ -17,6 +17,8 @@ use Rattle.sets.specs.View.{same-root}
 use Rattle.tables.specs.Held.{rank-of, site-slot, end-slot}
 use Rattle.order.specs.Parts.{Names, rule-tests, lack-top, passes-top}
 use Rattle.choice.specs.declared.Best.{Best}
+use Rattle.choice.specs.declared.Near.{Near}
+use Rattle.choice.specs.declared.tests.Told.{Told}
 
 unfoldable pub open-at : List ℕ → List ℕ → Test → Bool
 open-at st root (on s) = testable st s
@@ -29,6 +31,19 @@ state-at st (same x y) = min (state st x) (state st y)
 -- the count of a test over a part
 unfoldable pub count-of : List ℕ → Test → List ℕ → ℕ
 count-of rules t part = length (filter (passes-top rules t (lack-top (rule-tests rules t) (rank-of rules) part)) part)
+
+-- the same of a part beside which other rules raise the bar
+unfoldable pub count-from : List ℕ → Test → List ℕ → ℕ → ℕ
+count-from rules t part bar = length (filter (passes-top rules t (max bar (lack-top (rule-tests rules t) (rank-of rules) part))) part)
+
+-- 1 where the rule at k of the part has the test
+unfoldable pub had-at : List ℕ → Test → List ℕ → ℕ → ℕ
+had-at rules t part k = if rule-tests rules t (getD part k 0) then 1 else 0
+
+-- which rules of the part have the test, and how high the others are
+pub record Tells (rules : List ℕ) (t : Test) (part : List ℕ) (r : Told) : Type 0 where
+  pub marks : (k : ℕ) → k < length part → getD (r .had) k 0 ≡ had-at rules t part k
+  pub raises : r .top ≡ lack-top (rule-tests rules t) (rank-of rules) part
 
 -- tests in the order of the last tie; no code is above the last
 abbrev pub last-code : ℕ
@@ -53,6 +68,9 @@ worth o n s t = if o && 0 below n then key-of n s (code t) else 0
 
 unfoldable pub worth-of : List ℕ → List ℕ → List ℕ → List ℕ → Test → ℕ
 worth-of rules st root part t = worth (open-at st root t) (count-of rules t part) (state-at st t) t
+
+unfoldable pub worth-from : List ℕ → List ℕ → List ℕ → List ℕ → ℕ → Test → ℕ
+worth-from rules st root part bar t = worth (open-at st root t) (count-from rules t part bar) (state-at st t) t
 
 -- the test of a worth
 unfoldable pub of-code : ℕ → Best
@@ -93,6 +111,26 @@ rule-worth w rules top i = if rank-above rules i is top then max (constraints-wo
 
 unfoldable pub part-worth : (Test → ℕ) → List ℕ → List ℕ → ℕ
 part-worth w rules part = greatest (rule-worth w rules (top-of rules part)) part
+
+-- NEAR RULES: those that may have a pair of rule i, whose ends have mark 1
+pub record Marks (rules : List ℕ) (i : ℕ) (marks : List ℕ) : Type 0 where
+  pub each : (k : ℕ) → k < 2 * rule-word slots rules i 4 → getD marks (end-slot rules i k) 0 ≡ 1
+
+unfoldable pub is-marked : List ℕ → ℕ → Bool
+is-marked marks s = getD marks s 0 is 1
+
+unfoldable pub marked-ends : List ℕ → List ℕ → ℕ → ℕ
+marked-ends rules marks j = length (filter (is-marked marks) (map (end-slot rules j) (upto (2 * rule-word slots rules j 4))))
+
+-- a rule with a pair of rule i has two marked ends
+unfoldable pub is-near : List ℕ → List ℕ → ℕ → Bool
+is-near rules marks j = 2 at-most marked-ends rules marks j
+
+-- the near rules of a part stand in front, and the others raise the bar
+pub record Nears (rules marks part : List ℕ) (r : Near) : Type 0 where
+  pub fits : r .count ≤ length (r .ids)
+  pub front : take (r .count) (r .ids) ≡ filter (is-near rules marks) part
+  pub raises : r .bar ≡ lack-top (is-near rules marks) (rank-of rules) part
 
 -- WHAT A CALLER KNOWS. The roots say of two different ids what the pairs joined on the path say
 pub record Joined (root : List ℕ) (joined : List Pair) : Type 0 where

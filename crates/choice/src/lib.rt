@@ -6,13 +6,14 @@ use tests::CODE_ROOM;
 use tests::LAST_CODE;
 use tests::greater;
 use tests::of_test;
+use tests::one_more;
 ghost use mathlib.Core.Path.{_≡_};
 ghost use Prim.Native.Nat.{_<_, max};
 ghost use Rattle.definition.specs.Book.{most, slots};
 ghost use Rattle.definition.specs.Tables.{rule-at};
 ghost use Rattle.tables.specs.Held.{Held, Named};
 ghost use Rattle.order.specs.Parts.{Parts, Names};
-ghost use Rattle.choice.specs.Worth.{worth-of, decoded, constraints-worth, pair-worth, end-worth, pairs-worth, top-of, rule-worth, part-worth, Chosen};
+ghost use Rattle.choice.specs.Worth.{worth-of, worth-from, Marks, marked-ends, Nears, decoded, constraints-worth, pair-worth, end-worth, pairs-worth, top-of, rule-worth, part-worth, Chosen};
 
 pub enum Best {
     Match(u8),
@@ -37,7 +38,7 @@ fn of_constraints(
     let mut k: usize = 0;
     while k < n {
         let s = tables::rule_id(rules, i, 6 + 4 * k);
-        most = of_test(rules, states, root, part, s, 0, most);
+        most = of_test(rules, states, root, part, 0, s, 0, most);
         k += 1;
     }
     most
@@ -49,17 +50,18 @@ fn of_two(
     states: &[u8; 252],
     root: &[u8; 252],
     part: &[u8],
+    bar: usize,
     i: usize,
     x: usize,
     y: usize,
     best: usize,
 ) -> usize
     requires { ⌜ Parts (now rules) (now part) × (Held (now rules) i × ((x < most) × (y < most))) ⌝ }
-    ensures { λ r. ⌜ r ≡ max best (pair-worth (worth-of (now (rules .entry)) (now (states .entry)) (now (root .entry)) (now (part .entry))) (rule-at slots (now (rules .entry)) i) x y) ⌝ }
+    ensures { λ r. ⌜ r ≡ max best (pair-worth (worth-from (now (rules .entry)) (now (states .entry)) (now (root .entry)) (now (part .entry)) bar) (rule-at slots (now (rules .entry)) i) x y) ⌝ }
 {
     if x < y {
         if tables::rule_links(rules, i, x, y) {
-            return of_test(rules, states, root, part, x, y, best);
+            return of_test(rules, states, root, part, bar, x, y, best);
         }
     }
     best
@@ -71,19 +73,20 @@ fn of_end(
     states: &[u8; 252],
     root: &[u8; 252],
     part: &[u8],
+    bar: usize,
     i: usize,
     x: usize,
     best: usize,
 ) -> usize
     requires { ⌜ Parts (now rules) (now part) × (Held (now rules) i × (Named most (now rules) i × (x < most))) ⌝ }
-    ensures { λ r. ⌜ r ≡ max best (end-worth (worth-of (now (rules .entry)) (now (states .entry)) (now (root .entry)) (now (part .entry))) (now (rules .entry)) i x) ⌝ }
+    ensures { λ r. ⌜ r ≡ max best (end-worth (worth-from (now (rules .entry)) (now (states .entry)) (now (root .entry)) (now (part .entry)) bar) (now (rules .entry)) i x) ⌝ }
 {
     let n = 2 * tables::rule_id(rules, i, 4);
     let mut most = best;
     let mut k: usize = 0;
     while k < n {
         let y = tables::rule_id(rules, i, 22 + k);
-        most = of_two(rules, states, root, part, i, x, y, most);
+        most = of_two(rules, states, root, part, bar, i, x, y, most);
         k += 1;
     }
     most
@@ -95,21 +98,105 @@ fn of_pairs(
     states: &[u8; 252],
     root: &[u8; 252],
     part: &[u8],
+    bar: usize,
     i: usize,
     best: usize,
 ) -> usize
     requires { ⌜ Parts (now rules) (now part) × (Held (now rules) i × Named most (now rules) i) ⌝ }
-    ensures { λ r. ⌜ r ≡ max best (pairs-worth (worth-of (now (rules .entry)) (now (states .entry)) (now (root .entry)) (now (part .entry))) (now (rules .entry)) i) ⌝ }
+    ensures { λ r. ⌜ r ≡ max best (pairs-worth (worth-from (now (rules .entry)) (now (states .entry)) (now (root .entry)) (now (part .entry)) bar) (now (rules .entry)) i) ⌝ }
 {
     let n = 2 * tables::rule_id(rules, i, 4);
     let mut most = best;
     let mut k: usize = 0;
     while k < n {
         let x = tables::rule_id(rules, i, 22 + k);
-        most = of_end(rules, states, root, part, i, x, most);
+        most = of_end(rules, states, root, part, bar, i, x, most);
         k += 1;
     }
     most
+}
+
+// The rules of a part that may have a pair of a rule, at the front of `ids`. `bar` is one more than the highest
+// priority of the others, or 0.
+struct Near {
+    ids: [u8; 252],
+    count: usize,
+    bar: usize,
+}
+
+// Marks 1 on the ends of the pairs of rule `i`.
+fn marks_of(rules: &[u32], i: usize) -> [u8; 252]
+    requires { ⌜ Held (now rules) i × Named most (now rules) i ⌝ }
+    ensures { λ r. ⌜ Marks (now (rules .entry)) i r ⌝ }
+{
+    let n = 2 * tables::rule_id(rules, i, 4);
+    let mut marks = [0u8; 252];
+    let mut k: usize = 0;
+    while k < n {
+        marks[tables::rule_id(rules, i, 22 + k)] = 1;
+        k += 1;
+    }
+    marks
+}
+
+// How many ends of the pairs of rule `j` are marked.
+fn marked(rules: &[u32], marks: &[u8; 252], j: usize) -> usize
+    requires { ⌜ Held (now rules) j × Named most (now rules) j ⌝ }
+    ensures { λ r. ⌜ r ≡ marked-ends (now (rules .entry)) (now (marks .entry)) j ⌝ }
+{
+    let n = 2 * tables::rule_id(rules, j, 4);
+    let mut m: usize = 0;
+    let mut k: usize = 0;
+    while k < n {
+        m = one_more(marks[tables::rule_id(rules, j, 22 + k)] == 1, m);
+        k += 1;
+    }
+    m
+}
+
+// A rule that has a pair of the marked rule has two marked ends. The others are left out, and raise the bar.
+fn sharing(rules: &[u32], marks: &[u8; 252], part: &[u8]) -> Near
+    requires { ⌜ Parts (now rules) (now part) × Names most (now rules) (now part) ⌝ }
+    ensures { λ r. ⌜ Nears (now (rules .entry)) (now (marks .entry)) (now (part .entry)) r ⌝ }
+{
+    let mut ids = [0u8; 252];
+    let mut n: usize = 0;
+    let mut bar: usize = 0;
+    let mut k: usize = 0;
+    while k < part.len() {
+        let x = part[k];
+        if 2 <= marked(rules, marks, wide(x)) {
+            ids[n] = x;
+            n += 1;
+            k += 1;
+        } else {
+            bar = greater(bar, tables::wide(tables::priority(rules, wide(x))) + 1);
+            k += 1;
+        }
+    }
+    Near { ids, count: n, bar }
+}
+
+// The same of the pairs of rule `i`, asked only of the rules that may have one of them.
+fn of_near(
+    rules: &[u32],
+    states: &[u8; 252],
+    root: &[u8; 252],
+    part: &[u8],
+    i: usize,
+    best: usize,
+) -> usize
+    requires { ⌜ Parts (now rules) (now part) × (Names most (now rules) (now part) × (Held (now rules) i × Named most (now rules) i)) ⌝ }
+    ensures { λ r. ⌜ r ≡ max best (pairs-worth (worth-of (now (rules .entry)) (now (states .entry)) (now (root .entry)) (now (part .entry))) (now (rules .entry)) i) ⌝ }
+{
+    if tables::rule_id(rules, i, 4) == 0 {
+        return best;
+    }
+    let marks = marks_of(rules, i);
+    let near = sharing(rules, &marks, part);
+    let ids = near.ids;
+    let n = near.count;
+    of_pairs(rules, states, root, &ids[0..n], near.bar, i, best)
 }
 
 // The same of the tests of rule `i`, if its priority is the highest.
@@ -122,12 +209,12 @@ fn of_rule(
     i: usize,
     best: usize,
 ) -> usize
-    requires { ⌜ Parts (now rules) (now part) × (Held (now rules) i × Named most (now rules) i) ⌝ }
+    requires { ⌜ Parts (now rules) (now part) × (Names most (now rules) (now part) × (Held (now rules) i × Named most (now rules) i)) ⌝ }
     ensures { λ r. ⌜ r ≡ max best (rule-worth (worth-of (now (rules .entry)) (now (states .entry)) (now (root .entry)) (now (part .entry))) (now (rules .entry)) top i) ⌝ }
 {
     if tables::wide(tables::priority(rules, i)) + 1 == top {
         let most = of_constraints(rules, states, root, part, i, best);
-        return of_pairs(rules, states, root, part, i, most);
+        return of_near(rules, states, root, part, i, most);
     }
     best
 }

@@ -10,7 +10,7 @@ ghost use Rattle.definition.specs.Choice.{testable};
 ghost use Rattle.sets.specs.View.{same-root};
 ghost use Rattle.tables.specs.Held.{test-of};
 ghost use Rattle.order.specs.Parts.{Parts};
-ghost use Rattle.choice.specs.Worth.{open-at, state-at, count-of, code, worth-of};
+ghost use Rattle.choice.specs.Worth.{open-at, state-at, count-from, code, worth-from, Tells};
 
 // A test's worth has three parts: its count, its state (0 to 3), and how far its code is below the last, which no code exceeds.
 pub const LAST_CODE: usize = 65791;
@@ -18,6 +18,20 @@ pub const LAST_CODE: usize = 65791;
 pub const CODE_ROOM: usize = 131072;
 
 const STATE_ROOM: usize = 524288;
+
+// Which places of a part have a rule with a test, with mark 1, and one more than the highest priority of the other
+// rules, or 0.
+struct Told {
+    had: [u8; 252],
+    top: usize,
+}
+
+pub fn one_more(t: bool, n: usize) -> usize
+    requires { ⌜ n < most ⌝ }
+    ensures { λ r. ⌜ r ≡ n + (if t then 1 else 0) ⌝ }
+{
+    if t { n + 1 } else { n }
+}
 
 // One more than `n` if the rule has the test and its priority reaches `top`.
 fn more(had: bool, p: usize, top: usize, n: usize) -> usize
@@ -32,22 +46,43 @@ fn more(had: bool, p: usize, top: usize, n: usize) -> usize
     n
 }
 
-// Internal: how many rules of the part a test counts: those that have it, less those that a higher rule without it bars.
-pub fn count(rules: &[u32], part: &[u8], a: usize, b: usize) -> usize
+// Each rule of the part is asked once.
+fn ask_once(rules: &[u32], part: &[u8], a: usize, b: usize) -> Told
     requires { ⌜ Parts (now rules) (now part) ⌝ }
-    ensures { λ r. ⌜ (r ≡ count-of (now (rules .entry)) (test-of a b) (now (part .entry))) × (r ≤ most) ⌝ }
+    ensures { λ r. ⌜ Tells (now (rules .entry)) (test-of a b) (now (part .entry)) r ⌝ }
 {
-    let top = order::lacking(rules, part, a, b);
+    let mut had = [0u8; 252];
+    let mut top: usize = 0;
+    let mut k: usize = 0;
+    while k < part.len() {
+        let i = wide(part[k]);
+        if tables::rule_has(rules, i, a, b) {
+            had[k] = 1;
+            k += 1;
+        } else {
+            had[k] = 0;
+            top = greater(top, tables::wide(tables::priority(rules, i)) + 1);
+            k += 1;
+        }
+    }
+    Told { had, top }
+}
+
+// Internal: how many rules of the part a test counts: those that have it, less those that a higher rule without it
+// bars. `bar` is one more than the highest priority of such rules outside the part, or 0.
+pub fn count(rules: &[u32], part: &[u8], bar: usize, a: usize, b: usize) -> usize
+    requires { ⌜ Parts (now rules) (now part) ⌝ }
+    ensures { λ r. ⌜ (r ≡ count-from (now (rules .entry)) (test-of a b) (now (part .entry)) bar) × (r ≤ most) ⌝ }
+{
+    let told = ask_once(rules, part, a, b);
+    let had = told.had;
+    let top = greater(bar, told.top);
     let mut n: usize = 0;
     let mut k: usize = 0;
     while k < part.len() {
         let i = wide(part[k]);
-        n = more(
-            tables::rule_has(rules, i, a, b),
-            tables::wide(tables::priority(rules, i)),
-            top,
-            n,
-        );
+        let p = tables::wide(tables::priority(rules, i));
+        n = more(had[k] == 1, p, top, n);
         k += 1;
     }
     n
@@ -133,12 +168,13 @@ pub fn of_test(
     states: &[u8; 252],
     root: &[u8; 252],
     part: &[u8],
+    bar: usize,
     a: usize,
     b: usize,
     best: usize,
 ) -> usize
     requires { ⌜ Parts (now rules) (now part) × ((a < most) × (b < most)) ⌝ }
-    ensures { λ r. ⌜ r ≡ max best (worth-of (now (rules .entry)) (now (states .entry)) (now (root .entry)) (now (part .entry)) (test-of a b)) ⌝ }
+    ensures { λ r. ⌜ r ≡ max best (worth-from (now (rules .entry)) (now (states .entry)) (now (root .entry)) (now (part .entry)) bar (test-of a b)) ⌝ }
 {
     if !is_open(states, root, a, b) {
         return best;
@@ -147,7 +183,7 @@ pub fn of_test(
     if part.len() * STATE_ROOM + tie <= best {
         return best;
     }
-    let n = count(rules, part, a, b);
+    let n = count(rules, part, bar, a, b);
     if n == 0 {
         return best;
     }

@@ -3,12 +3,12 @@ use mathlib.Core.Path.{_≡_, refl, sym, ap, subst, _∙_}
 use mathlib.Core.Logic.{_⊎_, inl, inr}
 use mathlib.Core.Bool.{true, false}
 use mathlib.Core.List.{List, [], _∷_, map, List·Memᴰ}
-use Prim.Native.Nat.{ℕ, _+_, _-_, _*_, _<_}
+use Prim.Native.Nat.{ℕ, _+_, _*_, _≤_, _<_}
 use native.Mathlib.Omega.{arith}
 use lib.Dec.{eqb}
-use borrow.Author.Tests.{eqb-true, eqb-false, eq-eqb, ne-eqb}
+use borrow.Author.Tests.{eqb-true, eqb-false, eq-eqb}
 use Rattle.definition.specs.Book.{slots, Pair, label, linked}
-use Rattle.definition.specs.Lists.{_is_, from, upto, any}
+use Rattle.definition.specs.Lists.{_is_, upto, any}
 use Rattle.definition.specs.Tables.{rule-word, pair-at, rule-at}
 use Rattle.laws.specs.Members.{any-at, mem-map, mem-from, from-bounds, mem-map-of}
 use Rattle.laws.specs.Tests.{split, clash, one-of, neither}
@@ -70,24 +70,6 @@ no-second-end ps x y n f = go (split (linked ps x y))
 
 -- THE PAIRS IN THEIR SLOTS
 module _ (t : List ℕ) (i x : ℕ) where
-  pub ends-all : (n : ℕ) → n ≡ rule-word slots t i 4 → any (is-end x) (map (pair-at slots t i) (from 0 (n - 0))) ≡ any (is-end x) (rule-at slots t i .pairs)
-  unfolding rule-at
-  ends-all n e = let z : n - 0 ≡ rule-word slots t i 4 = omega arith in rw z
-
-  module _ (k : ℕ) {a : ℕ} (ea : a ≡ rule-word slots t i (22 + 2 * k)) where
-    pub first-end : a ≡ x → is-end x (pair-at slots t i k) ≡ true
-    unfolding is-end pair-at
-    first-end e = rw (← ea, eq-eqb a x e)
-
-    module _ {b : ℕ} (eb : b ≡ rule-word slots t i (22 + 2 * k + 1)) (n : a ≡ x → ⊥) where
-      pub second-end : b ≡ x → is-end x (pair-at slots t i k) ≡ true
-      unfolding is-end pair-at
-      second-end e = rw (← ea, ← eb, ne-eqb a x n, eq-eqb b x e)
-
-      pub neither-end : (b ≡ x → ⊥) → is-end x (pair-at slots t i k) ≡ false
-      unfolding is-end pair-at
-      neither-end m = rw (← ea, ← eb, ne-eqb a x n, ne-eqb b x m)
-
   -- an end stands in the table
   at-end : (k j : ℕ) → k < rule-word slots t i 4 → j < 2 → end-slot t i (2 * k + j) ≡ x → List·Memᴰ x (map (end-slot t i) (upto (2 * rule-word slots t i 4)))
   at-end k j h l e = subst (λ z. List·Memᴰ z (map (end-slot t i) (upto (2 * rule-word slots t i 4)))) e (mem-map (end-slot t i) (2 * k + j) (upto (2 * rule-word slots t i 4)) (mem-from 0 (2 * rule-word slots t i 4) (2 * k + j) (omega arith) (omega arith)))
@@ -106,3 +88,28 @@ module _ (t : List ℕ) (i x : ℕ) where
           either : (eqb (rule-word slots t i (22 + 2 * k)) x ≡ true) ⊎ (eqb (rule-word slots t i (22 + 2 * k + 1)) x ≡ true) → List·Memᴰ x (map (end-slot t i) (upto (2 * rule-word slots t i 4)))
           either (inl g) = at-end k 0 h (omega arith) (ap (λ j. rule-word slots t i j) (omega arith) ∙ eqb-true (rule-word slots t i (22 + 2 * k)) x g)
           either (inr g) = at-end k 1 h (omega arith) (ap (λ j. rule-word slots t i j) (omega arith) ∙ eqb-true (rule-word slots t i (22 + 2 * k + 1)) x g)
+
+-- THE SEARCH for x among the ends: none of the first k is x
+pub record Passed (t : List ℕ) (i x k : ℕ) : Type 0 where
+  pub none : (j : ℕ) → j < k → end-slot t i j ≡ x → ⊥
+
+module _ {t : List ℕ} {i x : ℕ} where
+  pub pass-starts : Passed t i x 0
+  pass-starts = record { none = λ j h. absurd (omega arith) }
+
+  pub pass-turn : {k e : ℕ} → Passed t i x k → e ≡ end-slot t i k → (e ≡ x → ⊥) → Passed t i x (k + 1)
+  pass-turn {k} p f n = record { none = λ j h. go j h (split (eqb j k)) }
+    where
+      go : (j : ℕ) → j < k + 1 → (eqb j k ≡ true) ⊎ (eqb j k ≡ false) → end-slot t i j ≡ x → ⊥
+      go j h (inl y) z = n (f ∙ ap (end-slot t i) (sym (eqb-true j k y)) ∙ z)
+      go j h (inr y) z = let s = eqb-false j k y in p .none j (omega arith) z
+
+  pub no-end : {k m : ℕ} → Passed t i x k → m ≡ rule-word slots t i 4 → 2 * m ≤ k → any (is-end x) (rule-at slots t i .pairs) ≡ false
+  no-end {k} {m} p e h = go (split (any (is-end x) (rule-at slots t i .pairs)))
+    where
+      go : (any (is-end x) (rule-at slots t i .pairs) ≡ true) ⊎ (any (is-end x) (rule-at slots t i .pairs) ≡ false) → any (is-end x) (rule-at slots t i .pairs) ≡ false
+      go (inl f) =
+          let q = mem-map-of (end-slot t i) x (upto (2 * rule-word slots t i 4)) (end-stands t i x f) in
+          let b = from-bounds 0 (2 * rule-word slots t i 4) (q .0) (q .1) in
+          absurd (p .none (q .0) (omega arith) (sym (q .2)))
+      go (inr f) = f

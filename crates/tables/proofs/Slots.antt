@@ -1,16 +1,16 @@
 -- A rule's constraints and pairs in their slots, as the loops of `tables` meet them.
-use mathlib.Core.Path.{_≡_, sym, ap, _∙_}
+use mathlib.Core.Path.{_≡_, refl, sym, ap, subst, _∙_}
 use mathlib.Core.Bool.{true, false}
 use mathlib.Core.List.{List, [], _∷_, map}
-use Prim.Native.Nat.{ℕ, suc, _+_, _-_, _*_, _≤_, _<_}
+use Prim.Native.Nat.{ℕ, zero, suc, _+_, _-_, _*_, _≤_, _<_}
 use native.Mathlib.Omega.{arith}
 use lib.Dec.{eqb}
-use borrow.Author.Tests.{eq-eqb, ne-eqb}
-use Rattle.definition.specs.Book.{slots, Constraint, is-on, constrains, pattern-in, pattern-on, label}
-use Rattle.definition.specs.Lists.{_is_, if_then_else_, from, any}
+use lib.ListN.{length, getD, length-map}
+use Rattle.definition.specs.Book.{slots, Constraint, is-on, constrains, pattern-in, pattern-on, label, linked}
+use Rattle.definition.specs.Lists.{_is_, from, any}
 use Rattle.definition.specs.Tables.{rule-word, constraint-start, constraint-at, pair-at, rule-at}
 use Rattle.laws.specs.Runs.{in-slots}
-use Rattle.tables.specs.Held.{shown, last-pairs, site-slot}
+use Rattle.tables.specs.Held.{shown, last-pairs, site-slot, end-slot, relabel, Labels, Ended}
 use Rattle.tables.specs.declared.Shape.{Shape}
 
 -- the constraints from slot k on, of n
@@ -51,13 +51,19 @@ pub slot-shown : (t : List ℕ) (i k : ℕ) (p : Shape) → p .kind ≡ rule-wor
 unfolding constraint-at
 slot-shown t i k p e f g = rw (e, f, g)
 
+-- an element of an array whose elements are replaced
+map-inside : (f : ℕ → ℕ) (l : List ℕ) (k d : ℕ) → k < length l → getD (map f l) k d ≡ f (getD l k d)
+map-inside f [] k d h = absurd (omega arith)
+map-inside f (x ∷ xs) zero d h = refl
+map-inside f (x ∷ xs) (suc k) d h = map-inside f xs k d (omega arith)
+
 -- PAIRS, from the last on
 module _ (t : List ℕ) (i : ℕ) where
-  pub pairs-all : (n : ℕ) → n ≡ rule-word slots t i 4 → last-pairs t i n ≡ rule-at slots t i .pairs
+  pairs-all : (n : ℕ) → n ≡ rule-word slots t i 4 → last-pairs t i n ≡ rule-at slots t i .pairs
   unfolding last-pairs rule-at
   pairs-all n e = let z : rule-word slots t i 4 - n ≡ 0 = omega arith in rw (z, e)
 
-  pub pairs-none : (x n : ℕ) → n ≡ 0 → label (last-pairs t i n) x ≡ x
+  pairs-none : (x n : ℕ) → n ≡ 0 → label (last-pairs t i n) x ≡ x
   unfolding last-pairs
   pairs-none x n e = rw e
 
@@ -69,15 +75,25 @@ module _ (t : List ℕ) (i : ℕ) where
       let y : suc (m - n) ≡ m - (n - 1) = omega arith in
       ap (λ j. map (pair-at slots t i) (from (m - n) j)) x ∙ rw y
 
--- one pair more: the code's two answers
-module _ (t : List ℕ) (i n m : ℕ) (f : n ≡ 0 → ⊥) (h : n ≤ rule-word slots t i 4) (e : m ≡ rule-word slots t i 4) where
-  module _ (x : ℕ) {a b l lb : ℕ} (ea : a ≡ rule-word slots t i (22 + 2 * (m - n))) (eb : b ≡ rule-word slots t i (22 + 2 * (m - n) + 1)) (el : l ≡ label (last-pairs t i (n - 1)) x) (elb : lb ≡ label (last-pairs t i (n - 1)) b) where
-    label-more : label (last-pairs t i n) x ≡ (if l is lb then label (last-pairs t i (n - 1)) a else l)
-    unfolding pair-at
-    label-more = rw (pairs-more t i n f h, ← e, ← ea, ← eb, ← el, ← elb)
+  pub own-label-each : {l : List ℕ} → length l ≡ 8 → ((k : ℕ) → k < 8 → getD l k 0 ≡ end-slot t i k) → Labels t i 0 l
+  own-label-each h e = record { long = h; each = λ k h. e k h ∙ sym (pairs-none (end-slot t i k) 0 refl) }
 
-    pub label-one : {la : ℕ} → la ≡ label (last-pairs t i (n - 1)) a → l ≡ lb → la ≡ label (last-pairs t i n) x
-    label-one ela q = ela ∙ sym (label-more ∙ rw (eq-eqb l lb q))
+  pub labels-now : {l : List ℕ} {n m : ℕ} → Labels t i n l → n ≡ m → Labels t i m l
+  labels-now {l} v e = subst (λ m. Labels t i m l) e v
 
-    pub label-other : (l ≡ lb → ⊥) → l ≡ label (last-pairs t i n) x
-    label-other q = sym (label-more ∙ rw (ne-eqb l lb q))
+  -- one pair more, that in slot k: what has the label of its second end gets that of its first
+  pub label-turn : {l : List ℕ} {n k : ℕ} → Labels t i n l → k + n + 1 ≡ rule-word slots t i 4 → k < 4 → Labels t i (n + 1) (map (relabel (getD l (2 * k + 1) 0) (getD l (2 * k) 0)) l)
+  unfolding pair-at
+  label-turn {l} {n} {k} v e h = record {
+    long = length-map l (relabel (getD l (2 * k + 1) 0) (getD l (2 * k) 0)) ∙ v .long;
+    each = λ j q.
+        let m : rule-word slots t i 4 - (n + 1) ≡ k = omega arith in
+        let p : n + 1 - 1 ≡ n = omega arith in
+        let z : 22 + (2 * k + 1) ≡ 22 + 2 * k + 1 = omega arith in
+        map-inside (relabel (getD l (2 * k + 1) 0) (getD l (2 * k) 0)) l j 0 (omega (arith, v .long)) ∙ rw (v .each j q, v .each (2 * k) (omega arith), v .each (2 * k + 1) (omega arith), z, pairs-more (n + 1) (λ y. omega arith) (omega arith), m, p);
+  }
+
+  -- all pairs are joined: the labels of two ends tell whether they are linked
+  pub labels-tell : {l : List ℕ} {x y j k : ℕ} → Labels t i (rule-word slots t i 4) l → Ended t i x j → j < 8 → Ended t i y k → k < 8 → getD l j 0 is getD l k 0 ≡ linked (rule-at slots t i .pairs) x y
+  unfolding linked
+  labels-tell v p h q g = rw (v .each _ h, v .each _ g, p .there h, q .there g, pairs-all _ refl)

@@ -1,12 +1,13 @@
 -- Which records of the tables may be read, and how words are read as priorities, patterns and tests.
-use mathlib.Core.Bool.{Bool, _||_}
+use mathlib.Core.Path.{_≡_}
+use mathlib.Core.Bool.{Bool, false, _||_}
 use mathlib.Core.List.{List, map}
 use Prim.Native.Nat.{ℕ, _+_, _-_, _*_, _%_, _^_, _≤_, _<_}
 use lib.ListN.{length, getD}
-use Rattle.definition.specs.Book.{slots, pair-slots, impure-slots, Pattern, Pair}
+use Rattle.definition.specs.Book.{slots, pair-slots, impure-slots, Pattern, Pair, label}
 use Rattle.definition.specs.Choice.{Test, on, same}
-use Rattle.definition.specs.Lists.{_is_, if_then_else_, from}
-use Rattle.definition.specs.Tables.{signed, site-words, site-word, rule-words, rule-word, constraint-start, pair-start, pair-at}
+use Rattle.definition.specs.Lists.{_is_, if_then_else_, from, any}
+use Rattle.definition.specs.Tables.{signed, site-words, site-word, rule-words, rule-word, constraint-start, pair-start, pair-at, rule-at}
 use Rattle.tables.specs.declared.Shape.{Shape}
 
 -- site s stands in the table, and its count is that of a site record
@@ -55,6 +56,20 @@ site-slot t i k = rule-word slots t i (constraint-start k)
 
 abbrev pub end-slot : List ℕ → ℕ → ℕ → ℕ
 end-slot t i k = rule-word slots t i (pair-start slots 0 + k)
+
+-- v, or b where v is a
+abbrev pub relabel : ℕ → ℕ → ℕ → ℕ
+relabel a b v = if v is a then b else v
+
+-- l has the labels of the ends of rule i's pairs after its last n pairs are joined
+pub record Labels (t : List ℕ) (i n : ℕ) (l : List ℕ) : Type 0 where
+  pub long : length l ≡ 8
+  pub each : (k : ℕ) → k < 8 → getD l k 0 ≡ label (last-pairs t i n) (end-slot t i k)
+
+-- r is the place of x among those ends, and 8 or more where it is none of them
+pub record Ended (t : List ℕ) (i x r : ℕ) : Type 0 where
+  pub there : r < 8 → end-slot t i r ≡ x
+  pub nowhere : 8 ≤ r → any (is-end x) (rule-at slots t i .pairs) ≡ false
 
 -- the ids that rule i's tests name are below n
 pub record Named (n : ℕ) (t : List ℕ) (i : ℕ) : Type 0 where

@@ -1,13 +1,14 @@
 // A book's tables of words, read field by field: 6 words a site, 34 a rule.
 ghost use mathlib.Core.Path.{_≡_};
+ghost use mathlib.Core.List.{map};
 ghost use Prim.Native.Nat.{_+_, _*_, _<_, _≤_};
 ghost use lib.ListN.{length, getD};
-ghost use Rattle.definition.specs.Lists.{same-number, any};
-ghost use Rattle.definition.specs.Book.{slots, constrains, pattern-on, label, linked};
+ghost use Rattle.definition.specs.Lists.{same-number};
+ghost use Rattle.definition.specs.Book.{slots, constrains, pattern-on, linked};
 ghost use Rattle.definition.specs.Tables.{signed, site-words, site-word, site-at, rule-words, rule-word, rule-at};
 ghost use Rattle.definition.specs.Scope.{never-listed};
 ghost use Rattle.definition.specs.Choice.{has};
-ghost use Rattle.tables.specs.Held.{Held, Sited, biased, rank-of, shown, test-of, last-pairs, is-end};
+ghost use Rattle.tables.specs.Held.{Held, Sited, biased, rank-of, shown, test-of, relabel, Labels, Ended};
 
 pub const SITE_WORDS: usize = 6;
 
@@ -224,42 +225,67 @@ pub fn pattern_on(rules: &[u32], i: usize, s: usize) -> Shape
     }
 }
 
-// The label of site `x` after the last `n` pairs of a rule are joined.
-fn label_of(rules: &[u32], i: usize, n: usize, x: usize) -> usize
-    requires { ⌜ Held (now rules) i × (n ≤ rule-word slots (now rules) i 4) ⌝ }
-    ensures { λ r. ⌜ r ≡ label (last-pairs (now (rules .entry)) i n) x ⌝ }
+// The place of site `x` among the ends of a rule's pairs, or 8 if it is none of them.
+fn end_of(rules: &[u32], i: usize, x: usize) -> usize
+    requires { ⌜ Held (now rules) i ⌝ }
+    ensures { λ r. ⌜ Ended (now (rules .entry)) i x r ⌝ }
 {
-    if n == 0 {
-        return x;
+    let n = 2 * rule_id(rules, i, 4);
+    let mut k: usize = 0;
+    while k < n {
+        if rule_id(rules, i, 22 + k) == x {
+            return k;
+        }
+        k += 1;
     }
-    let at = 22 + 2 * (rule_id(rules, i, 4) - n);
-    let a = rule_id(rules, i, at);
-    let b = rule_id(rules, i, at + 1);
-    let l = label_of(rules, i, n - 1, x);
-    if l == label_of(rules, i, n - 1, b) {
-        return label_of(rules, i, n - 1, a);
+    8
+}
+
+// The ends of a rule's pairs, each of which is its own label at first.
+fn own_labels(rules: &[u32], i: usize) -> [u32; 8]
+    requires { ⌜ Held (now rules) i ⌝ }
+    ensures { λ r. ⌜ Labels (now (rules .entry)) i 0 r ⌝ }
+{
+    let mut l = [0u32; 8];
+    let mut k: usize = 0;
+    while k < 8 {
+        l[k] = rule_word(rules, i, 22 + k);
+        k += 1;
     }
     l
 }
 
-// Whether site `x` is in a pair of a rule.
-fn in_pair(rules: &[u32], i: usize, x: usize) -> bool
-    requires { ⌜ Held (now rules) i ⌝ }
-    ensures { λ r. ⌜ r ≡ any (is-end x) (rule-at slots (now (rules .entry)) i .pairs) ⌝ }
+fn renamed(v: u32, from: u32, to: u32) -> u32
+    ensures { λ r. ⌜ r ≡ relabel from to v ⌝ }
 {
-    let n = rule_id(rules, i, 4);
+    if v == from { to } else { v }
+}
+
+fn relabelled(old: [u32; 8], from: u32, to: u32) -> [u32; 8]
+    ensures { λ r. ⌜ r ≡ map (relabel from to) old ⌝ }
+{
+    let mut l = old;
     let mut k: usize = 0;
-    while k < n {
-        let at = 22 + 2 * k;
-        if rule_id(rules, i, at) == x {
-            return true;
-        }
-        if rule_id(rules, i, at + 1) == x {
-            return true;
-        }
+    while k < 8 {
+        l[k] = renamed(l[k], from, to);
         k += 1;
     }
-    false
+    l
+}
+
+// The labels of the ends after all pairs are joined, the last one first.
+fn labels(rules: &[u32], i: usize) -> [u32; 8]
+    requires { ⌜ Held (now rules) i ⌝ }
+    ensures { λ r. ⌜ Labels (now (rules .entry)) i (rule-word slots (now (rules .entry)) i 4) r ⌝ }
+{
+    let n = rule_id(rules, i, 4);
+    let mut l = own_labels(rules, i);
+    let mut k: usize = n;
+    while 0 < k {
+        k -= 1;
+        l = relabelled(l, l[2 * k + 1], l[2 * k]);
+    }
+    l
 }
 
 // Internal: whether sites `x` and `y` are in one class of a rule.
@@ -270,14 +296,16 @@ pub fn rule_links(rules: &[u32], i: usize, x: usize, y: usize) -> bool
     if x == y {
         return true;
     }
-    if !in_pair(rules, i, x) {
+    let j = end_of(rules, i, x);
+    if 8 <= j {
         return false;
     }
-    if !in_pair(rules, i, y) {
+    let k = end_of(rules, i, y);
+    if 8 <= k {
         return false;
     }
-    let n = rule_id(rules, i, 4);
-    label_of(rules, i, n, x) == label_of(rules, i, n, y)
+    let l = labels(rules, i);
+    l[j] == l[k]
 }
 
 // Internal: whether a rule has a test: a constraint on `a` where `b` is 0, and else the pair.

@@ -31,7 +31,7 @@ wide-requires c κs = search needs
 
 of-rule-requires : tie.Need-of-rule-requires Inv-loop μ-loop
 of-rule-requires c κs = let p = c .before .before .before .before .before .before .before .pre in
-    (p .0, (held-at (p .0) (c .before .before .before .loop .k) (c .before .before .loop-test .taken) (c .wide .ensures .0), named-at (p .1) (c .before .before .before .loop .k) (c .before .before .loop-test .taken) (c .wide .ensures .0)))
+    (p .0, (p .1, (held-at (p .0) (c .before .before .before .loop .k) (c .before .before .loop-test .taken) (c .wide .ensures .0), named-at (p .1) (c .before .before .before .loop .k) (c .before .before .loop-test .taken) (c .wide .ensures .0))))
 
 add-k : tie.Need-add-k Inv-loop μ-loop
 add-k c = search needs

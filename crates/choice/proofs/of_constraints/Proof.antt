@@ -10,6 +10,7 @@ use Rattle.laws.specs.Greatest.{Climbed, climb-starts, climb-turn, climb-slots}
 use Rattle.laws.specs.Runs.{in-slots}
 use Rattle.tables.specs.Held.{site-slot}
 use Rattle.choice.specs.Worth.{worth-of, match-worth, constraints-worth}
+use Rattle.choice.proofs.Answers.{worth-alone}
 use Rattle.choice.proofs.of_constraints.Statement.{statement}
 use Rattle.choice.proofs.of_constraints.Tie as tie
 
@@ -46,7 +47,7 @@ loop-less c = search needs
 loop-again : tie.Need-loop-again Inv-loop μ-loop
 unfolding match-worth
 loop-again c = let d = c .before .before .before .before .before .before .before .args in
-    climb-turn _ (in-slots (site-slot (d .rules .now) (d .i)) _) (c .before .before .before .loop .inv) (c .before .before .loop-test .taken) (c .of-test .ensures ∙ ap (λ s. max (c .before .before .before .loop .most) (worth-of (d .rules .now) (d .states .now) (d .root .now) (d .part .now) (on s))) (c .before .rule-id2 .ensures))
+    climb-turn _ (in-slots (site-slot (d .rules .now) (d .i)) _) (c .before .before .before .loop .inv) (c .before .before .loop-test .taken) (c .of-test .ensures ∙ ap (max (c .before .before .before .loop .most)) (worth-alone (d .rules .now) (d .states .now) (d .root .now) (d .part .now) (on (c .before .rule-id2 .result))) ∙ ap (λ s. max (c .before .before .before .loop .most) (worth-of (d .rules .now) (d .states .now) (d .root .now) (d .part .now) (on s))) (c .before .rule-id2 .ensures))
 
 returns : tie.Need-returns Inv-loop μ-loop
 unfolding constraints-worth

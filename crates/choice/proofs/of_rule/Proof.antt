@@ -17,11 +17,11 @@ add-if1 c = search needs
 of-constraints-requires : tie.Need-of-constraints-requires
 of-constraints-requires c κs = search needs
 
-of-pairs-requires : tie.Need-of-pairs-requires
-of-pairs-requires c κs = search needs
+of-near-requires : tie.Need-of-near-requires
+of-near-requires c κs = search needs
 
 returns : tie.Need-returns
-returns c = rule-top _ _ _ _ _ (c .before .before .before .wide .ensures ∙ c .before .before .before .before .priority .ensures) (c .before .before .if1 .taken) (c .before .of-constraints .ensures) (c .of-pairs .ensures)
+returns c = rule-top _ _ _ _ _ (c .before .before .before .wide .ensures ∙ c .before .before .before .before .priority .ensures) (c .before .before .if1 .taken) (c .before .of-constraints .ensures) (c .of-near .ensures)
 
 returns-2 : tie.Need-returns-2
 returns-2 c = rule-low _ _ _ _ _ (c .before .wide .ensures ∙ c .before .before .priority .ensures) (c .if1 .left)
@@ -34,6 +34,6 @@ of-rule-spec =
     wide-requires
     add-if1
     of-constraints-requires
-    of-pairs-requires
+    of-near-requires
     returns
     returns-2)

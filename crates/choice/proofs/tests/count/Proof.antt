@@ -8,18 +8,21 @@ use Rattle.laws.specs.Runs.{Tallied, tally-starts, tally-turn, tally-ends}
 use Rattle.tables.specs.Held.{test-of}
 use Rattle.order.specs.Parts.{passes-top}
 use Rattle.order.proofs.Asks.{held-at}
-use Rattle.choice.proofs.Answers.{passes-by, counted-all}
+use Rattle.choice.proofs.Answers.{passes-told, counted-all}
 use Rattle.choice.proofs.tests.count.Statement.{statement}
 use Rattle.choice.proofs.tests.count.Tie as tie
 
 abbrev Inv-loop : tie.InvT-loop
-Inv-loop rules part a b top n₀ k₀ n k = Tallied (passes-top rules (test-of a b) top) part k n
+Inv-loop rules part bar a b had top n₀ k₀ n k = Tallied (passes-top rules (test-of a b) top) part k n
 
 abbrev μ-loop : tie.MeasureT-loop
-μ-loop rules part a b top n₀ k₀ n k = length part - k
+μ-loop rules part bar a b had top n₀ k₀ n k = length part - k
 
-lacking-requires : tie.Need-lacking-requires Inv-loop μ-loop
-lacking-requires c κs = search needs
+ask-once-requires : tie.Need-ask-once-requires Inv-loop μ-loop
+ask-once-requires c κs = search needs
+
+greater-requires : tie.Need-greater-requires Inv-loop μ-loop
+greater-requires c κs = search needs
 
 loop-holds : tie.Need-loop-holds Inv-loop μ-loop
 loop-holds c = tally-starts _ _
@@ -30,17 +33,17 @@ shared-slice-read-wide c = search needs
 wide-requires : tie.Need-wide-requires Inv-loop μ-loop
 wide-requires c κs = search needs
 
-rule-has-requires : tie.Need-rule-has-requires Inv-loop μ-loop
-rule-has-requires c κs = held-at (c .before .before .before .before .before .before .before .pre) (c .before .before .before .loop .k) (c .before .before .loop-test .taken) (c .wide .ensures .0)
-
 priority-requires : tie.Need-priority-requires Inv-loop μ-loop
-priority-requires c κs = held-at (c .before .before .before .before .before .before .before .before .pre) (c .before .before .before .before .loop .k) (c .before .before .before .loop-test .taken) (c .before .wide .ensures .0)
+priority-requires c κs = held-at (c .before .before .before .before .before .before .before .before .before .pre) (c .before .before .before .loop .k) (c .before .before .loop-test .taken) (c .wide .ensures .0)
 
 wide-requires-2 : tie.Need-wide-requires-2 Inv-loop μ-loop
 wide-requires-2 c κs = search needs
 
+array-read-more : tie.Need-array-read-more Inv-loop μ-loop
+array-read-more c = omega (arith, c .before .before .before .before .loop-test .taken, c .before .before .before .before .before .before .before .before .before .before .before .pre .short)
+
 more-requires : tie.Need-more-requires Inv-loop μ-loop
-more-requires c κs = (omega arith, omega (arith, c .before .before .before .before .before .before .loop .inv .few, c .before .before .before .before .before .loop-test .taken, c .before .before .before .before .before .before .before .before .before .before .pre .short))
+more-requires c κs = (omega arith, omega (arith, c .before .before .before .before .before .loop .inv .few, c .before .before .before .before .loop-test .taken, c .before .before .before .before .before .before .before .before .before .before .before .pre .short))
 
 add-k : tie.Need-add-k Inv-loop μ-loop
 add-k c = search needs
@@ -49,12 +52,14 @@ loop-less : tie.Need-loop-less Inv-loop μ-loop
 loop-less c = search needs
 
 loop-again : tie.Need-loop-again Inv-loop μ-loop
-loop-again c = let d = c .before .before .before .before .before .before .before .before .before .before .before .args in
-    tally-turn (c .before .before .before .before .before .before .before .loop .inv) (c .before .before .before .before .before .before .loop-test .taken) (passes-by (d .rules .now) (test-of (d .a) (d .b)) _ (c .before .before .before .before .wide .ensures .0) (c .before .before .before .rule-has .ensures) (c .before .wide2 .ensures ∙ c .before .before .priority .ensures)) (c .more .ensures)
+loop-again c =
+    let d = c .before .before .before .before .before .before .before .before .before .before .before .before .args in
+    tally-turn (c .before .before .before .before .before .before .loop .inv) (c .before .before .before .before .before .loop-test .taken) (passes-told (d .rules .now) (test-of (d .a) (d .b)) (d .part .now) _ (c .before .before .before .before .before .before .before .before .before .ask-once .ensures) (c .before .before .before .before .before .before .loop .k) (c .before .before .before .before .before .loop-test .taken) (c .before .before .before .wide .ensures .0) (c .before .wide2 .ensures ∙ c .before .before .priority .ensures)) (c .more .ensures)
 
 returns : tie.Need-returns Inv-loop μ-loop
-returns c = let d = c .before .before .before .before .before .args in
-    (counted-all (d .rules .now) (test-of (d .a) (d .b)) (d .part .now) _ _ (c .before .before .lacking .ensures) (tally-ends (c .before .loop .inv) (c .loop-test .left)), omega (arith, c .before .loop .inv .few, c .before .loop .inv .within, c .before .before .before .before .before .pre .short))
+returns c =
+    let d = c .before .before .before .before .before .before .before .args in
+    (counted-all (d .rules .now) (test-of (d .a) (d .b)) (d .part .now) (d .bar) _ _ (c .before .before .before .before .ask-once .ensures .raises) (c .before .before .greater .ensures) (tally-ends (c .before .loop .inv) (c .loop-test .left)), omega (arith, c .before .loop .inv .few, c .before .loop .inv .within, c .before .before .before .before .before .before .before .pre .short))
 
 pub count-spec : {M : Type 1} → statement M
 count-spec =
@@ -62,13 +67,14 @@ count-spec =
     (tie.spec
     Inv-loop
     μ-loop
-    lacking-requires
+    ask-once-requires
+    greater-requires
     loop-holds
     shared-slice-read-wide
     wide-requires
-    rule-has-requires
     priority-requires
     wide-requires-2
+    array-read-more
     more-requires
     add-k
     loop-less

@@ -11,7 +11,7 @@ is-open-requires : tie.Need-is-open-requires
 is-open-requires c κs = search needs
 
 returns : tie.Need-returns
-returns c = test-shut _ _ _ _ _ _ (sym (c .before .is-open .ensures) ∙ not-true _ (c .if1 .taken))
+returns c = test-shut _ _ _ _ _ _ _ (sym (c .before .is-open .ensures) ∙ not-true _ (c .if1 .taken))
 
 state-of-requires : tie.Need-state-of-requires
 state-of-requires c κs = search needs
@@ -35,13 +35,13 @@ add-if2 : tie.Need-add-if2
 add-if2 c = search needs
 
 returns-2 : tie.Need-returns-2
-returns-2 c = test-behind _ _ _ _ _ _ (sym (c .before .before .before .before .is-open .ensures) ∙ not-false _ (c .before .before .before .if1 .left)) (c .before .before .state-of .ensures .0) (c .before .code-of .ensures .0) (c .if2 .taken)
+returns-2 c = test-behind _ _ _ _ _ _ _ (sym (c .before .before .before .before .is-open .ensures) ∙ not-false _ (c .before .before .before .if1 .left)) (c .before .before .state-of .ensures .0) (c .before .code-of .ensures .0) (c .if2 .taken)
 
 count-requires : tie.Need-count-requires
 count-requires c κs = search needs
 
 returns-3 : tie.Need-returns-3
-returns-3 c = test-none _ _ _ _ _ _ (sym (c .before .before .before .before .before .before .is-open .ensures) ∙ not-false _ (c .before .before .before .before .before .if1 .left)) (sym (c .before .count .ensures .0) ∙ c .if3 .taken)
+returns-3 c = test-none _ _ _ _ _ _ _ (sym (c .before .before .before .before .before .before .is-open .ensures) ∙ not-false _ (c .before .before .before .before .before .if1 .left)) (sym (c .before .count .ensures .0) ∙ c .if3 .taken)
 
 mul-greater : tie.Need-mul-greater
 mul-greater c = search needs
@@ -54,7 +54,7 @@ greater-requires c κs = search needs
 
 returns-4 : tie.Need-returns-4
 returns-4 c = let d = c .before .before .before .before .before .before .before .before .before .before .args in
-    c .greater .ensures ∙ ap (max (d .best)) (test-some _ _ _ _ _ (d .best) (sym (c .before .before .before .before .before .before .before .is-open .ensures) ∙ not-false _ (c .before .before .before .before .before .before .if1 .left)) (c .before .before .before .before .before .state-of .ensures .0) (c .before .before .before .before .code-of .ensures .0) (c .before .before .count .ensures .0) (c .before .if3 .left))
+    c .greater .ensures ∙ ap (max (d .best)) (test-some _ _ _ _ _ _ (d .best) (sym (c .before .before .before .before .before .before .before .is-open .ensures) ∙ not-false _ (c .before .before .before .before .before .before .if1 .left)) (c .before .before .before .before .before .state-of .ensures .0) (c .before .before .before .before .code-of .ensures .0) (c .before .before .count .ensures .0) (c .before .if3 .left))
 
 pub of-test-spec : {M : Type 1} → statement M
 of-test-spec =
