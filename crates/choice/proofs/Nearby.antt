@@ -6,23 +6,23 @@ use mathlib.Core.List.{List, [], _∷_, _++_, map, List·Memᴰ, append-nil}
 use Prim.Native.Nat.{ℕ, _+_, _-_, _*_, _≤_, _<_, max}
 use native.Mathlib.Omega.{arith}
 use native.Mathlib.Numerals.{add-one}
-use lib.Dec.{eqb, ltb, leb}
+use lib.Dec.{eqb, ltb}
 use lib.ListN.{length, getD, set, take, drop, length-set}
 use lib.Seq.{append-snoc, take-suc, take-set-le, getD-set-same, getD-set-other}
-use borrow.Author.Tests.{eqb-true, eqb-false, eq-eqb, leb-true, leb-false, le-leb, lt-leb, ltb-true}
+use borrow.Author.Tests.{eqb-true, eqb-false, eq-eqb, le-leb, lt-leb, ltb-true}
 use Rattle.definition.specs.Book.{slots, linked}
-use Rattle.definition.specs.Choice.{Test, has, on, same}
-use Rattle.definition.specs.Lists.{upto, from, filter, keep, each}
+use Rattle.definition.specs.Choice.{Test, has, same}
+use Rattle.definition.specs.Lists.{upto, from, filter, each}
 use Rattle.definition.specs.Tables.{rule-word, rule-at}
 use Rattle.laws.specs.Ascending.{mem-index}
 use Rattle.laws.specs.Greatest.{greatest-same}
-use Rattle.laws.specs.Members.{filter-in, filter-from, mem-length, lone-list, mem-map-of, from-bounds, getD-mem, filter-all}
-use Rattle.laws.specs.Runs.{in-slots, in-slice, one}
+use Rattle.laws.specs.Members.{filter-in, filter-from, mem-map-of, from-bounds, getD-mem, filter-all, filter-narrow, two-members}
+use Rattle.laws.specs.Runs.{in-slots, in-slice, one, one-le, one-kept}
 use Rattle.laws.specs.Tests.{split, clash, both}
 use Rattle.tables.specs.Held.{Held, rank-of, end-slot}
 use Rattle.tables.proofs.Ends.{linked-flip, linked-end, end-stands}
 use Rattle.order.specs.Parts.{Parts, raised, raise, rule-tests, lack-top, passes-top}
-use Rattle.choice.specs.Worth.{count-of, count-from, worth, worth-of, worth-from, pair-worth, end-worth, pairs-worth, Marks, is-marked, marked-ends, is-near, Nears}
+use Rattle.choice.specs.Worth.{count-of, count-from, worth-of, worth-from, pair-worth, end-worth, pairs-worth, Marks, is-marked, marked-ends, is-near, Nears}
 use Rattle.choice.specs.declared.Near.{Near}
 
 -- A TEST THAT ONLY NEAR RULES HAVE
@@ -52,32 +52,15 @@ module _ (t p : ℕ → Bool) (rank : ℕ → ℕ) (h : (j : ℕ) → t j ≡ tr
           let z : raised (t j) (rank j) 0 ≡ max 0 (rank j + 1) = rw e in
           rw f (omega (arith, rec, z, each-max t rank js (raised (t j) (rank j) 0), each-max p rank js (max 0 (rank j + 1))))
 
-  pub filter-narrow : (l : List ℕ) → filter t (filter p l) ≡ filter t l
-  filter-narrow [] = refl
-  filter-narrow (j ∷ js) = go (split (t j)) (split (p j)) (filter-narrow js)
-    where
-      go : (t j ≡ true) ⊎ (t j ≡ false) → (p j ≡ true) ⊎ (p j ≡ false) → filter t (filter p js) ≡ filter t js → filter t (filter p (j ∷ js)) ≡ filter t (j ∷ js)
-      go (inl e) (inl f) rec = rw (f, e, rec)
-      go (inl e) (inr f) rec = clash (h j e) f
-      go (inr e) (inl f) rec = rw (f, e, rec)
-      go (inr e) (inr f) rec = rw (f, e, rec)
-
 -- the count over the near rules is the count over the part
 count-narrow : (rules : List ℕ) (t : Test) (p : ℕ → Bool) → ((j : ℕ) → rule-tests rules t j ≡ true → p j ≡ true) → (part : List ℕ) → count-from rules t (filter p part) (lack-top p (rank-of rules) part) ≡ count-of rules t part
 unfolding count-from count-of passes-top
 count-narrow rules t p h part =
     let T = lack-top (rule-tests rules t) (rank-of rules) part in
     ap (λ z. length (filter (passes-top rules t z) (filter p part))) (sym (lack-narrow (rule-tests rules t) p (rank-of rules) h part))
-    ∙ ap length (filter-narrow (passes-top rules t T) p (rank-of rules) (λ j e. h j (both (rule-tests rules t j) _ e .0)) part)
+    ∙ ap length (filter-narrow p (passes-top rules t T) (λ j e. h j (both (rule-tests rules t j) _ e .0)) part)
 
 -- RULES WITH A PAIR of rule i are near
-two-members : (xs : List ℕ) (x y : ℕ) → List·Memᴰ x xs → List·Memᴰ y xs → (x ≡ y → ⊥) → 2 ≤ length xs
-two-members xs x y m k n = go (split (leb 2 (length xs)))
-  where
-    go : (leb 2 (length xs) ≡ true) ⊎ (leb 2 (length xs) ≡ false) → 2 ≤ length xs
-    go (inl e) = leb-true 2 (length xs) e
-    go (inr e) = absurd (n (lone-list xs (let a = leb-false 2 (length xs) e in let b = mem-length m in omega arith) x y m k))
-
 module _ {rules : List ℕ} {i : ℕ} {marks : List ℕ} (v : Marks rules i marks) where
   end-marked : (x : ℕ) → List·Memᴰ x (map (end-slot rules i) (upto (2 * rule-word slots rules i 4))) → is-marked marks x ≡ true
   unfolding is-marked
@@ -146,14 +129,6 @@ mark-turn {rules} {i} {k} {marks} v {e} f h = record { long = length-set marks e
         let s = eqb-false (end-slot rules i j) e t in
         let d : j ≡ k → ⊥ = λ z. s (ap (end-slot rules i) z ∙ sym f) in
         getD-set-other marks e (end-slot rules i j) 1 0 s ∙ v .so-far j (omega (arith, d))
-
-one-le : (t : Bool) → one t ≤ 1
-one-le true = omega arith
-one-le false = omega arith
-
-one-kept : (t : Bool) (x : ℕ) (xs : List ℕ) → length (keep t x xs) ≡ one t + length xs
-one-kept true x xs = omega arith
-one-kept false x xs = omega arith
 
 -- m of the first k ends are marked
 pub record MarkTold (marks : List ℕ) (g : ℕ → ℕ) (n k m : ℕ) : Type 0 where

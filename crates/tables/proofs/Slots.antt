@@ -2,7 +2,7 @@
 use mathlib.Core.Path.{_≡_, refl, sym, ap, subst, _∙_}
 use mathlib.Core.Bool.{true, false}
 use mathlib.Core.List.{List, [], _∷_, map}
-use Prim.Native.Nat.{ℕ, zero, suc, _+_, _-_, _*_, _≤_, _<_}
+use Prim.Native.Nat.{ℕ, suc, _+_, _-_, _*_, _≤_, _<_}
 use native.Mathlib.Omega.{arith}
 use lib.Dec.{eqb}
 use lib.ListN.{length, getD, length-map}
@@ -10,7 +10,8 @@ use Rattle.definition.specs.Book.{slots, Constraint, is-on, constrains, pattern
 use Rattle.definition.specs.Lists.{_is_, from, any}
 use Rattle.definition.specs.Tables.{rule-word, constraint-start, constraint-at, pair-at, rule-at}
 use Rattle.laws.specs.Runs.{in-slots}
-use Rattle.tables.specs.Held.{shown, last-pairs, site-slot, end-slot, relabel, Labels, Ended}
+use Rattle.laws.specs.Loops.{relabel, map-inside}
+use Rattle.tables.specs.Held.{shown, last-pairs, site-slot, end-slot, Labels, Ended}
 use Rattle.tables.specs.declared.Shape.{Shape}
 
 -- the constraints from slot k on, of n
@@ -51,12 +52,6 @@ pub slot-shown : (t : List ℕ) (i k : ℕ) (p : Shape) → p .kind ≡ rule-wor
 unfolding constraint-at
 slot-shown t i k p e f g = rw (e, f, g)
 
--- an element of an array whose elements are replaced
-map-inside : (f : ℕ → ℕ) (l : List ℕ) (k d : ℕ) → k < length l → getD (map f l) k d ≡ f (getD l k d)
-map-inside f [] k d h = absurd (omega arith)
-map-inside f (x ∷ xs) zero d h = refl
-map-inside f (x ∷ xs) (suc k) d h = map-inside f xs k d (omega arith)
-
 -- PAIRS, from the last on
 module _ (t : List ℕ) (i : ℕ) where
   pairs-all : (n : ℕ) → n ≡ rule-word slots t i 4 → last-pairs t i n ≡ rule-at slots t i .pairs
@@ -90,7 +85,7 @@ module _ (t : List ℕ) (i : ℕ) where
         let m : rule-word slots t i 4 - (n + 1) ≡ k = omega arith in
         let p : n + 1 - 1 ≡ n = omega arith in
         let z : 22 + (2 * k + 1) ≡ 22 + 2 * k + 1 = omega arith in
-        map-inside (relabel (getD l (2 * k + 1) 0) (getD l (2 * k) 0)) l j 0 (omega (arith, v .long)) ∙ rw (v .each j q, v .each (2 * k) (omega arith), v .each (2 * k + 1) (omega arith), z, pairs-more (n + 1) (λ y. omega arith) (omega arith), m, p);
+        map-inside (relabel (getD l (2 * k + 1) 0) (getD l (2 * k) 0)) l j 0 0 (omega (arith, v .long)) ∙ rw (v .each j q, v .each (2 * k) (omega arith), v .each (2 * k + 1) (omega arith), z, pairs-more (n + 1) (λ y. omega arith) (omega arith), m, p);
   }
 
   -- all pairs are joined: the labels of two ends tell whether they are linked

@@ -57,10 +57,6 @@ site-slot t i k = rule-word slots t i (constraint-start k)
 abbrev pub end-slot : List ℕ → ℕ → ℕ → ℕ
 end-slot t i k = rule-word slots t i (pair-start slots 0 + k)
 
--- v, or b where v is a
-abbrev pub relabel : ℕ → ℕ → ℕ → ℕ
-relabel a b v = if v is a then b else v
-
 -- l has the labels of the ends of rule i's pairs after its last n pairs are joined
 pub record Labels (t : List ℕ) (i n : ℕ) (l : List ℕ) : Type 0 where
   pub long : length l ≡ 8

@@ -8,7 +8,8 @@ ghost use Rattle.definition.specs.Book.{slots, constrains, pattern-on, linked};
 ghost use Rattle.definition.specs.Tables.{signed, site-words, site-word, site-at, rule-words, rule-word, rule-at};
 ghost use Rattle.definition.specs.Scope.{never-listed};
 ghost use Rattle.definition.specs.Choice.{has};
-ghost use Rattle.tables.specs.Held.{Held, Sited, biased, rank-of, shown, test-of, relabel, Labels, Ended};
+ghost use Rattle.laws.specs.Loops.{relabel};
+ghost use Rattle.tables.specs.Held.{Held, Sited, biased, rank-of, shown, test-of, Labels, Ended};
 
 pub const SITE_WORDS: usize = 6;
 

@@ -2,8 +2,8 @@
 use Prim.Native.Nat.{_≤_, _<_, _-_}
 use lib.ListN.{length}
 use borrow.Author.Needs.{needs}
-use Rattle.laws.specs.Loops.{Mapped, map-starts, map-turn, map-ends}
-use Rattle.tables.specs.Held.{relabel}
+use Rattle.laws.specs.Loops.{Mapped, map-starts, map-turn, map-ends, relabel}
+use Rattle.tables.specs.Held.{}
 use Rattle.tables.proofs.relabelled.Statement.{statement}
 use Rattle.tables.proofs.relabelled.Tie as tie
 
