@@ -20,3 +20,4 @@ pub mod Splits
 pub mod Sides
 pub mod Firsts
 pub mod Lending
+pub mod Options

@@ -12,7 +12,7 @@ use mir.Facts.{toZ-ofZ}
 use lib.Dec.{eqb, ltb, leb, isEq}
 use lib.IntN.{ℤ, pos}
 use lib.ListN.{length, getD, take, drop, length-drop}
-use lib.Seq.{take-suc, getD-drop}
+use lib.Seq.{take-suc}
 use borrow.Author.Tests.{lt-leb, le-leb, eq-eqb, ne-eqb, leb-true, leb-false, ltb-true, ltb-false}
 use Rattle.definition.specs.Lists.{all, compare-signed}
 use Rattle.definition.specs.Walk.{Hit, holds, placed-in}
@@ -21,7 +21,7 @@ use Rattle.definition.specs.Tables.{signed}
 use Rattle.laws.specs.Tests.{and}
 use Rattle.laws.specs.Turns.{all-append, all-map, front-stop}
 use Rattle.laws.specs.Lending.{tail-part}
-use Rattle.walk.proofs.Readers.{numbers-some, id-yes, id-no}
+use Rattle.walk.proofs.Readers.{numbers-some, id-yes, id-no, at-one}
 use Rattle.walk.specs.declared.Stop.{Stop}
 use Rattle.walk.specs.declared.Seen.{Seen}
 use Rattle.walk.specs.Ends.{above, Good, Ends, ends, never, Held}
@@ -79,9 +79,6 @@ Lets w i t = Upto id-ok above (drop 1 w) i t
 pub lets-begin : (w : List ℕ) → Lets w 0 0
 unfolding above
 lets-begin w = record { pass = refl; top = refl }
-
-at-one : (w : List ℕ) (i : ℕ) → getD (drop 1 w) i 0 ≡ getD w (i + 1) 0
-at-one w i = getD-drop 1 w i 0 ∙ (let e : 1 + i ≡ i + 1 = omega arith in ap (λ k. getD w k 0) e)
 
 pub lets-more : (w : List ℕ) (i t : ℕ) → Lets w i t → (u : ℕ) → i + 1 < length w → getD w (i + 1) 0 ≤ 251 → u ≡ max t (getD w (i + 1) 0 + 1) → Lets w (i + 1) u
 lets-more w i t p u h k e =

@@ -2,12 +2,13 @@
 use mathlib.Core.Bool.{Bool, _&&_, false, true}
 use mathlib.Core.List.{List, [], _∷_}
 use mathlib.Core.Option.{Option, none, some}
-use mathlib.Core.Path.{_∙_, _≡_, refl, sym}
+use mathlib.Core.Path.{_∙_, _≡_, ap, refl, sym}
 use Prim.Native.Nat.{_+_, _-_, _<_, _≤_, suc, zero, ℕ}
 use native.Mathlib.Decide.{decLt}
 use native.Mathlib.Omega.{arith}
 use lib.Dec.{eqb, leb, ltb}
 use lib.IntN.{pos}
+use lib.Seq.{getD-drop}
 use lib.ListN.{drop, getD, length, length-drop, take}
 use borrow.Author.Tests.{le-leb, le-ltb, lt-leb, lt-ltb, ne-eqb}
 use Rattle.definition.specs.Accept.{pattern-ok}
@@ -27,6 +28,10 @@ pub numbers-none : (n : ℕ) (l : List ℕ) → length l < n → numbers n l ≡
 numbers-none zero l h = absurd (omega arith)
 numbers-none (suc n) [] h = refl
 numbers-none (suc n) (x ∷ l) h = rw (numbers-none n l (omega arith))
+
+-- the words behind the first
+pub at-one : (w : List ℕ) (i : ℕ) → getD (drop 1 w) i 0 ≡ getD w (i + 1) 0
+at-one w i = getD-drop 1 w i 0 ∙ (let e : 1 + i ≡ i + 1 = omega arith in ap (λ k. getD w k 0) e)
 
 pub id-yes : (x : ℕ) → x ≤ 251 → id-ok x ≡ true
 unfolding id-ok

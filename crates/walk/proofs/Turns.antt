@@ -12,12 +12,13 @@ use Rattle.definition.specs.Book.{Pattern}
 use Rattle.definition.specs.Accept.{pattern-ok}
 use Rattle.definition.specs.Tree.{Block, Flow, Arms, end, step, match, no-arms, arm}
 use Rattle.definition.specs.Walk.{Reading, Hit, first-hit, hits, flow-hits, arm-hits, walk, holds, placed-in, sites-in, flow-sites, arm-sites}
-use Rattle.definition.specs.Read.{Reader, _>>=_, guarded, read-places, read-pattern, read-arm, read-arms, read-flow, read-step, read-steps, read-counted}
+use Rattle.definition.specs.Read.{Reader, guarded, read-places, read-pattern, read-arm, read-arms, read-flow, read-step, read-steps, read-counted}
 use Rattle.definition.specs.Tables.{signed}
 use Rattle.walk.specs.declared.Stop.{Stop}
 use Rattle.walk.specs.Ends.{above, Good, stop-of, Held, pattern-at, arm-names, arm-stop, arms-stop, step-names, step-stop, flow-stop}
 use Rattle.walk.proofs.Laws.{above-append}
 use Rattle.laws.specs.Firsts.{or-else, else-none, else-assoc, first-hit-append}
+use Rattle.laws.specs.Options.{bound, some-inj}
 use Rattle.walk.proofs.Readers.{id-yes, id-no}
 
 -- the whole is read from the rest: its top and its stop are these
@@ -102,14 +103,6 @@ module _ (d : Reading) (sub : Reader Block) where
 
 -- ARMS
 -- the pattern of an arm stands in its first three words
-module _ {A B : Type 0} where
-  pub bound : (o : Option A) (f : A → Option B) (b : B) → (o >>= f) ≡ some b → (a : A) × (o ≡ some a) × (f a ≡ some b)
-  bound (some a) f b e = (a, refl, e)
-  bound none f b e = let z : _≡_ {A = ℕ} 0 1 = cc in absurd (omega arith)
-
-some-inj : {A : Type 0} (x y : A) → some x ≡ some y → x ≡ y
-some-inj x y e = cc
-
 pattern-words : (w : List ℕ) (a : Pattern × List (Option ℕ)) (r : List ℕ) → read-pattern w ≡ some (a, r) → (3 ≤ length w) × (a .0 ≡ pattern-at (getD w 0 0) (signed (getD w 2 0)) (getD w 1 0))
 unfolding read-pattern
 pattern-words [] a r e = let z : _≡_ {A = ℕ} 0 1 = cc in absurd (omega arith)
