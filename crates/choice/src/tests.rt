@@ -26,6 +26,7 @@ struct Told {
     top: usize,
 }
 
+// Internal: one more than `n` if the test holds.
 pub fn one_more(t: bool, n: usize) -> usize
     requires { ⌜ n < most ⌝ }
     ensures { λ r. ⌜ r ≡ n + (if t then 1 else 0) ⌝ }

@@ -18,7 +18,7 @@ use Rattle.definition.specs.Listing.{text, let-line, arm-line, place-text, plac
 use Rattle.laws.specs.Lending.{tail-part}
 use Rattle.laws.specs.Tests.{and}
 use Rattle.laws.specs.Turns.{all-append, all-map, front-stop}
-use Rattle.walk.proofs.Readers.{numbers-some, id-yes, id-no, at-one}
+use Rattle.walk.proofs.Readers.{numbers-some, id-yes, at-one}
 use Rattle.listing.specs.declared.Seen.{Seen}
 use Rattle.listing.specs.Writes.{Writes, places-head, arm-head}
 use Rattle.walk.specs.Ends.{pattern-at}
@@ -61,13 +61,6 @@ Lets p w i l at pos m = Taken id-ok (let-line p) (drop 1 w) i l at pos m
 pub lets-turn : (p w : List ℕ) {i : ℕ} {l : List ℕ} {at pos : ℕ} {m : List ℕ} → Lets p w i l at pos m → i + 1 < length w → getD w (i + 1) 0 ≤ 251
     → {next : ℕ} {m′ : List ℕ} → Writes m pos (let-line p (getD w (i + 1) 0)) next m′ → Lets p w (i + 1) l at next m′
 lets-turn p w {i} t h k v = taken-turn t (simp length-drop (omega arith)) (id-yes _ (subst (λ x. x ≤ 251) (sym (at-one w i)) k)) (writes-as v (ap (let-line p) (sym (at-one w i))))
-
-pub lets-bad : (w : List ℕ) (n i : ℕ) → n ≡ getD w 0 0 → n < length w → i < n → 251 < getD w (i + 1) 0 → read-lets w ≡ none
-unfolding read-lets
-lets-bad [] n i e k h g = refl
-lets-bad (x ∷ w) n i e k h g =
-    let q : 251 < getD w i 0 = subst (λ y. 251 < y) (sym (at-one (x ∷ w) i)) g in
-    rw (numbers-some x w (omega arith), front-stop id-ok w i x (omega arith) (omega arith) (id-no _ q))
 
 pub lets-good : (p w : List ℕ) (n i : ℕ) {l : List ℕ} {at pos : ℕ} {m : List ℕ} → Lets p w i l at pos m → n ≡ getD w 0 0 → n < length w → i ≤ n → n ≤ i
     → Good (flat (let-line p)) (read-lets w) w l at (n + 1) pos m

@@ -9,7 +9,7 @@ use lib.Seq.{drop-drop}
 use Rattle.definition.specs.Tree.{Block, end, step, match, no-arms, arm}
 use Rattle.definition.specs.Read.{Reader, read-arm, read-arms, read-flow, read-step, read-steps, read-counted}
 use Rattle.definition.specs.Listing.{match-line, steps-text, flow-text, arms-text}
-use Rattle.walk.proofs.Readers.{id-yes, id-no}
+use Rattle.walk.proofs.Readers.{id-yes, id-no, counted}
 use Rattle.listing.specs.Writes.{Writes}
 use Rattle.listing.specs.Ends.{Good, step-text, arm-text}
 use Rattle.listing.proofs.Writing.{writes-none, writes-then, writes-as}
@@ -39,16 +39,6 @@ module _ (p : List ℕ) (sub : Reader Block) where
     pub wrote : Writes l at done pos m
     pub onto : Onto (steps-text p (i + 1)) (steps-text p 1) ([] ++ done) (read-steps sub (n - i) (drop from w)) (read-counted sub w)
 
-  pub steps-empty : (w : List ℕ) → length w ≡ 0 → read-counted sub w ≡ none
-  unfolding read-counted
-  steps-empty [] h = refl
-  steps-empty (x ∷ w) h = absurd (omega arith)
-
-  counted : (w : List ℕ) → 0 < length w → read-steps sub (getD w 0 0 - 0) (drop 1 w) ≡ read-counted sub w
-  unfolding read-counted
-  counted [] h = absurd (omega arith)
-  counted (x ∷ w) h = let e : x - 0 ≡ x = omega arith in rw e
-
   pub steps-begin : (w l : List ℕ) (at : ℕ) → 0 < length w → Steps w (getD w 0 0) 1 0 l at at l
   steps-begin w l at h = record {
     some-left = omega arith;
@@ -56,8 +46,8 @@ module _ (p : List ℕ) (sub : Reader Block) where
     done = [];
     wrote = writes-none l at;
     onto = record {
-      fails = λ q. sym (counted w h) ∙ q;
-      goes = λ k r q. record { thing = k; is = sym (counted w h) ∙ q; text = refl };
+      fails = λ q. sym (counted sub w h) ∙ q;
+      goes = λ k r q. record { thing = k; is = sym (counted sub w h) ∙ q; text = refl };
     };
   }
 

@@ -153,22 +153,6 @@ pub fn result(rules: &[u32], i: usize) -> u32
     rule_word(rules, i, 2)
 }
 
-// Internal: how many constraints a rule has.
-pub fn constraint_count(rules: &[u32], i: usize) -> usize
-    requires { ⌜ Held (now rules) i ⌝ }
-    ensures { λ r. ⌜ (r ≡ length (rule-at slots (now (rules .entry)) i .constraints)) × ((r ≡ rule-word slots (now (rules .entry)) i 3) × (r ≤ slots)) ⌝ }
-{
-    rule_id(rules, i, 3)
-}
-
-// Internal: how many pairs a rule has.
-pub fn pair_count(rules: &[u32], i: usize) -> usize
-    requires { ⌜ Held (now rules) i ⌝ }
-    ensures { λ r. ⌜ (r ≡ length (rule-at slots (now (rules .entry)) i .pairs)) × ((r ≡ rule-word slots (now (rules .entry)) i 4) × (r ≤ 4)) ⌝ }
-{
-    rule_id(rules, i, 4)
-}
-
 // Internal: how many impure sites a rule has.
 pub fn impure_count(rules: &[u32], i: usize) -> usize
     requires { ⌜ Held (now rules) i ⌝ }

@@ -84,13 +84,6 @@ pub lets-more : (w : List ℕ) (i t : ℕ) → Lets w i t → (u : ℕ) → i + 
 lets-more w i t p u h k e =
     upto-more p above-snoc u (simp length-drop (omega arith)) (id-yes _ (rw (at-one w i) k)) (e ∙ ap (max t) (sym (above-one (getD w (i + 1) 0)) ∙ ap (λ x. above (x ∷ [])) (sym (at-one w i))))
 
-pub lets-bad : (w : List ℕ) (n i : ℕ) → n ≡ getD w 0 0 → n < length w → i < n → 251 < getD w (i + 1) 0 → read-lets w ≡ none
-unfolding read-lets
-lets-bad [] n i e k h g = refl
-lets-bad (x ∷ w) n i e k h g =
-    let q : 251 < getD w i 0 = rw (at-one (x ∷ w) i) g in
-    rw (numbers-some x w (omega arith), front-stop id-ok w i x (omega arith) (omega arith) (id-no _ q))
-
 pub lets-good : (w : List ℕ) (n i t : ℕ) → Lets w i t → n ≡ getD w 0 0 → n < length w → i ≤ n → n ≤ i → Good (λ (l : List ℕ). l) never (read-lets w) w (n + 1) t Stop.Nowhere
 unfolding read-lets
 lets-good [] n i t p e k h g = absurd (omega arith)

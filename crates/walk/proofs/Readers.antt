@@ -13,10 +13,11 @@ use lib.ListN.{drop, getD, length, length-drop, take}
 use borrow.Author.Tests.{le-leb, le-ltb, lt-leb, lt-ltb, ne-eqb}
 use Rattle.definition.specs.Accept.{pattern-ok}
 use Rattle.definition.specs.Lists.{every, same-number}
-use Rattle.definition.specs.Read.{Reader, _>>=_, guarded, id-ok, numbers, read-arm, read-block, read-counted, read-flow, read-framed, read-lets, read-pattern, read-places, read-step, read-tagged}
+use Rattle.definition.specs.Read.{Reader, _>>=_, guarded, id-ok, numbers, read-arm, read-block, read-counted, read-flow, read-framed, read-lets, read-pattern, read-places, read-step, read-tagged, read-steps}
 use Rattle.definition.specs.Tables.{signed}
 use Rattle.definition.specs.Tree.{Block}
 use Rattle.laws.specs.Answers.{and-false, and-true}
+use Rattle.laws.specs.Turns.{front-stop}
 use Rattle.walk.specs.Ends.{pattern-at}
 
 pub numbers-some : (n : ℕ) (l : List ℕ) → n ≤ length l → numbers n l ≡ some (take n l, drop n l)
@@ -174,6 +175,25 @@ framed-none sub (x ∷ w) h e = guard-none (leb x (length w)) (read-counted sub 
 
 pub block-none : (n : ℕ) (w : List ℕ) → (n ≡ 0 → ⊥) → 0 < length w → read-counted (read-block (n - 1)) (take (getD w 0 0) (drop 1 w)) ≡ none → read-block n w ≡ none
 block-none n w z h e = block-more n w z ∙ framed-none (read-block (n - 1)) w h e
+
+pub lets-bad : (w : List ℕ) (n i : ℕ) → n ≡ getD w 0 0 → n < length w → i < n → 251 < getD w (i + 1) 0 → read-lets w ≡ none
+unfolding read-lets
+lets-bad [] n i e k h g = refl
+lets-bad (x ∷ w) n i e k h g =
+    let q : 251 < getD w i 0 = rw (at-one (x ∷ w) i) g in
+    rw (numbers-some x w (omega arith), front-stop id-ok w i x (omega arith) (omega arith) (id-no _ q))
+
+-- STEPS
+module _ (sub : Reader Block) where
+  pub steps-empty : (w : List ℕ) → length w ≡ 0 → read-counted sub w ≡ none
+  unfolding read-counted
+  steps-empty [] h = refl
+  steps-empty (x ∷ w) h = absurd (omega arith)
+
+  pub counted : (w : List ℕ) → 0 < length w → read-steps sub (getD w 0 0 - 0) (drop 1 w) ≡ read-counted sub w
+  unfolding read-counted
+  counted [] h = absurd (omega arith)
+  counted (x ∷ w) h = let e : x - 0 ≡ x = omega arith in rw e
 
 -- PATTERNS
 zero-is : (w : ℕ) → eqb w 0 ≡ same-number (signed w) (pos 0)

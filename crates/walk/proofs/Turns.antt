@@ -19,7 +19,7 @@ use Rattle.walk.specs.Ends.{above, Good, stop-of, Held, pattern-at, arm-
 use Rattle.walk.proofs.Laws.{above-append}
 use Rattle.laws.specs.Firsts.{or-else, else-none, else-assoc, first-hit-append}
 use Rattle.laws.specs.Options.{bound, some-inj}
-use Rattle.walk.proofs.Readers.{id-yes, id-no}
+use Rattle.walk.proofs.Readers.{id-yes, id-no, counted}
 
 -- the whole is read from the rest: its top and its stop are these
 pub record To {B : Type 0} (names : B → List ℕ) (stop : B → Option Hit) (o : Option (B × List ℕ)) (r : List ℕ) (x : ℕ) (s : Option Hit) : Type 0 where
@@ -45,23 +45,13 @@ module _ (d : Reading) (sub : Reader Block) where
     pub inside : at ≤ length w
     pub onto : Onto sites-in (walk d) sites-in (walk d) t (or-else (stop-of p)) (read-steps sub (n - i) (drop at w)) (read-counted sub w)
 
-  pub steps-empty : (w : List ℕ) → length w ≡ 0 → read-counted sub w ≡ none
-  unfolding read-counted
-  steps-empty [] h = refl
-  steps-empty (x ∷ w) h = absurd (omega arith)
-
-  counted : (w : List ℕ) → 0 < length w → read-steps sub (getD w 0 0 - 0) (drop 1 w) ≡ read-counted sub w
-  unfolding read-counted
-  counted [] h = absurd (omega arith)
-  counted (x ∷ w) h = let e : x - 0 ≡ x = omega arith in rw e
-
   pub steps-begin : (w : List ℕ) → 0 < length w → Steps w (getD w 0 0) 1 0 Stop.Nowhere 0
   steps-begin w h = record {
     some-left = omega arith;
     inside = omega arith;
     onto = record {
-      fails = λ q. sym (counted w h) ∙ q;
-      goes = λ k r q. record { thing = k; is = sym (counted w h) ∙ q; top = omega arith; met = refl };
+      fails = λ q. sym (counted sub w h) ∙ q;
+      goes = λ k r q. record { thing = k; is = sym (counted sub w h) ∙ q; top = omega arith; met = refl };
     };
   }
 

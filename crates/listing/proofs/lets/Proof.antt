@@ -5,14 +5,14 @@ use mathlib.Core.Path.{_≡_}
 use Prim.Native.Nat.{_≤_, _-_}
 use lib.ListN.{length}
 use Rattle.listing.specs.Writes.{numbers-of}
-use Rattle.listing.proofs.Reading.{Lets, taken-starts, lets-turn, lets-bad, lets-good}
+use Rattle.listing.proofs.Reading.{Lets, taken-starts, lets-turn, lets-good}
 use Rattle.listing.proofs.lets.Statement.{statement}
 use Rattle.listing.proofs.lets.Tie as tie
 use Rattle.listing.proofs.lets.Reads as reads
 use Rattle.listing.proofs.lets.Lts as lts
 use Rattle.listing.proofs.line.put_let.Reads as put-let-reads
 use Rattle.listing.proofs.wide.Reads as wide-reads
-use Rattle.walk.proofs.Readers.{lets-empty, lets-short}
+use Rattle.walk.proofs.Readers.{lets-empty, lets-short, lets-bad}
 
 abbrev Inv-loop : tie.InvT-loop
 Inv-loop w path text₀ at n pos₀ i₀ text pos i = Lets (numbers-of path) w i text₀ at pos text × ((i ≤ n) × (length text ≡ length text₀))

@@ -1,4 +1,4 @@
-use Rattle.walk.proofs.Laws.{Lets, lets-begin, lets-bad, lets-more, lets-good}
+use Rattle.walk.proofs.Laws.{Lets, lets-begin, lets-more, lets-good}
 use Prim.Native.Nat.{_≤_, _-_}
 use native.Mathlib.Omega.{arith}
 use borrow.Author.Needs.{needs}
@@ -8,7 +8,7 @@ use Rattle.walk.proofs.lets.Reads as reads
 use Rattle.walk.proofs.lets.Lts as lts
 use Rattle.walk.proofs.greater.Reads as greater-reads
 use Rattle.walk.proofs.wide.Reads as wide-reads
-use Rattle.walk.proofs.Readers.{lets-empty, lets-short}
+use Rattle.walk.proofs.Readers.{lets-empty, lets-short, lets-bad}
 
 abbrev Inv-loop : tie.InvT-loop
 Inv-loop w n top₀ i₀ top i = (i ≤ n) × Lets w i top

@@ -5,12 +5,12 @@ use native.Mathlib.Omega.{arith}
 use lib.ListN.{length}
 use borrow.Author.Needs.{needs}
 use Rattle.definition.specs.Read.{read-block, read-tagged, read-step}
-use Rattle.walk.proofs.Readers.{sum-within, step-none}
+use Rattle.walk.proofs.Readers.{sum-within, step-none, steps-empty}
 use Rattle.listing.specs.Writes.{numbers-of}
 use Rattle.listing.proofs.Writing.{room-less}
 use Rattle.listing.proofs.Reading.{tail, told-none, told-good}
 use Rattle.listing.proofs.Parts.{step-stops, step-good}
-use Rattle.listing.proofs.Turns.{Steps, steps-empty, steps-begin, steps-stop, steps-turn, steps-done}
+use Rattle.listing.proofs.Turns.{Steps, steps-begin, steps-stop, steps-turn, steps-done}
 use borrow.Fn.PlainCycle.{is}
 use Rattle.listing.proofs.step.Reads as step
 use Rattle.listing.proofs.+arm+arms+block+flow+pair+step+steps.Lts-step as step-lts
@@ -76,7 +76,7 @@ abbrev pub steps-μ-loop : steps-lts.MeasureT-loop
 steps-μ-loop w path left text₀ at n from₀ pos₀ i₀ text from pos i = n - i
 
 pub steps-returns : (t : ℕ) → steps-lts.Need-returns (steps-claims t) (steps-at t) steps.Post steps-Inv-loop steps-μ-loop
-steps-returns t c = record { is = steps-empty (numbers-of (c .before .before .before .args .path)) (read-block (c .before .before .before .args .left)) (c .before .before .before .args .w .now) (omega arith) }
+steps-returns t c = record { is = steps-empty (read-block (c .before .before .before .args .left)) (c .before .before .before .args .w .now) (omega arith) }
 
 pub steps-shared-slice-read-n : (t : ℕ) → steps-lts.Need-shared-slice-read-n (steps-claims t) (steps-at t) steps.Post steps-Inv-loop steps-μ-loop
 steps-shared-slice-read-n t c = search needs

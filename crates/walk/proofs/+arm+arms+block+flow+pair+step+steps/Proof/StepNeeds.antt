@@ -2,10 +2,10 @@
 use Rattle.walk.proofs.Laws.{tail, told-none, told-good}
 use native.Mathlib.Omega.{arith}
 use Rattle.definition.specs.Read.{read-block, read-tagged, read-step}
-use Rattle.walk.proofs.Readers.{sum-within, step-none}
+use Rattle.walk.proofs.Readers.{sum-within, step-none, steps-empty}
 use Rattle.walk.specs.Ends.{reading}
 use Rattle.walk.proofs.Parts.{step-stops, step-good}
-use Rattle.walk.proofs.Turns.{Steps, steps-empty, steps-begin, steps-stop, steps-turn, steps-done}
+use Rattle.walk.proofs.Turns.{Steps, steps-begin, steps-stop, steps-turn, steps-done}
 use Prim.Native.Nat.{ℕ, _-_}
 use borrow.Author.Needs.{needs}
 use borrow.Fn.PlainCycle.{is}
@@ -67,7 +67,7 @@ abbrev pub steps-μ-loop : steps-lts.MeasureT-loop
 steps-μ-loop w kinds numbers identities left n at₀ top₀ stop₀ i₀ at top stop i = n - i
 
 pub steps-returns : (t : ℕ) → steps-lts.Need-returns (steps-claims t) (steps-at t) steps.Post steps-Inv-loop steps-μ-loop
-steps-returns t c = record { is = steps-empty (reading (c .before .before .before .before .args .kinds .now) (c .before .before .before .before .args .numbers .now) (c .before .before .before .before .args .identities .now)) (read-block (c .before .before .before .before .args .left)) (c .before .before .before .before .args .w .now) (omega arith) }
+steps-returns t c = record { is = steps-empty (read-block (c .before .before .before .before .args .left)) (c .before .before .before .before .args .w .now) (omega arith) }
 
 pub steps-shared-slice-read-n : (t : ℕ) → steps-lts.Need-shared-slice-read-n (steps-claims t) (steps-at t) steps.Post steps-Inv-loop steps-μ-loop
 steps-shared-slice-read-n t c = search needs
