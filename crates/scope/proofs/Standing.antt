@@ -5,13 +5,13 @@ use mathlib.Core.List.{List, []}
 use Prim.Native.Nat.{ℕ, zero, suc, _<_}
 use native.Mathlib.Omega.{arith}
 use lib.Dec.{eqb·suc-suc}
-use lib.ListN.{getD, replicate}
+use lib.ListN.{getD, set, replicate}
 use borrow.Author.Tests.{lt-ltb, ne-eqb}
 use Rattle.definition.specs.Lists.{_is_, every}
 use Rattle.definition.specs.Book.{Pair, Pattern, Book, most, linked}
 use Rattle.definition.specs.Sets.{Sets, same-class, merge}
 use Rattle.definition.specs.Scope as plan
-use Rattle.definition.specs.Scope.{nowhere, worked-out, arm-states, use-all, root, inside, joining}
+use Rattle.definition.specs.Scope.{matched, nowhere, worked-out, arm-states, use-all, root, inside, joining}
 use Rattle.definition.specs.Answers.{known, mergeable, merged-sets}
 use Rattle.definition.specs.Tree.{let-words}
 use Rattle.sets.specs.declared.Merge.{Merge}
@@ -20,9 +20,9 @@ use Rattle.sets.specs.Promises.{Merges}
 use Rattle.room.specs.Wrote.{Wrote}
 use Rattle.scope.specs.declared.Scope.{Scope}
 use Rattle.scope.specs.declared.Used.{Used}
-use Rattle.scope.specs.States.{With, Fresh}
+use Rattle.scope.specs.States.{arm-bindings, With, Fresh}
 use Rattle.scope.specs.Uses.{Listed}
-use Rattle.scope.specs.Classes.{label-in, Joined, store-of, Joins, Stands}
+use Rattle.scope.specs.Classes.{label-in, Joined, store-of, Joins, matching, Stands}
 use Rattle.scope.proofs.Labels.{made-rooted, merged-linked, same-linked}
 
 -- CLASSES
@@ -80,9 +80,8 @@ unfolding root
 stands-root b f = record { states = f .states; classes = joined-none (f .root) }
 
 module _ {σ : plan.Scope} {s : Scope} (h : Stands σ s) where
-  pub stands-inside : (b : Book) (x : ℕ) (p : Pattern) {r : Scope} → With (arm-states b (s .states) x p) s r → Stands (inside b σ x p) r
-  unfolding inside
-  stands-inside b x p w = record { states = w .states ∙ ap (λ st. arm-states b st x p) (h .states); classes = joined-with w (h .classes) }
+  pub stands-matching : (x : ℕ) {r : Scope} → With (set (s .states) x matched) s r → Stands (matching σ x) r
+  stands-matching x w = record { states = w .states ∙ ap (λ st. set st x matched) (h .states); classes = joined-with w (h .classes) }
 
   pub stands-joining : {x y : ℕ} {r : Scope} → Joins x y s r → Stands (joining σ x y) r
   stands-joining j = record { states = j .states ∙ h .states; classes = j .classes (σ .joined) (h .classes) }
@@ -94,3 +93,7 @@ module _ {σ : plan.Scope} {s : Scope} (h : Stands σ s) where
 
     pub used-words : Wrote l at (let-words (use-all b ss (σ .states) .lets)) (r .at) m
     used-words = subst (λ st. Wrote l at (let-words (use-all b ss st .lets)) (r .at) m) (h .states) (w .wrote)
+
+pub stands-inside : (b : Book) (σ : plan.Scope) (x : ℕ) (p : Pattern) {s r : Scope} → Stands (matching σ x) s → With (arm-bindings b x p (s .states)) s r → Stands (inside b σ x p) r
+unfolding inside arm-states arm-bindings
+stands-inside b σ x p h w = record { states = w .states ∙ ap (arm-bindings b x p) (h .states); classes = joined-with w (h .classes) }

@@ -2,10 +2,12 @@
 use mathlib.Core.Path.{_≡_}
 use mathlib.Core.List.{List, _∷_}
 use Prim.Native.Nat.{ℕ}
+use lib.ListN.{set}
 use Rattle.definition.specs.Lists.{_is_}
 use Rattle.definition.specs.Book.{Pair, linked}
 use Rattle.definition.specs.Sets.{Class, unmerged, in-set}
 use Rattle.definition.specs.Scope as plan
+use Rattle.definition.specs.Scope.{matched}
 use Rattle.sets.specs.declared.Store.{Store}
 use Rattle.sets.specs.View.{read, Made}
 use Rattle.scope.specs.declared.Scope.{Scope}
@@ -27,6 +29,10 @@ store-of s = record { root = s .root; rank = s .rank }
 pub record Joins (x y : ℕ) (s r : Scope) : Type 0 where
   pub states : r .states ≡ s .states
   pub classes : (ps : List Pair) → Joined ps (s .root) (s .rank) → Joined (record { a = x; b = y } ∷ ps) (r .root) (r .rank)
+
+-- σ with x Matched, as the arms of a Match on x share it
+abbrev pub matching : plan.Scope → ℕ → plan.Scope
+matching σ x = record { states = set (σ .states) x matched; joined = σ .joined }
 
 -- the scope s is the definition's scope σ
 pub record Stands (σ : plan.Scope) (s : Scope) : Type 0 where

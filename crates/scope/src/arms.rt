@@ -9,16 +9,16 @@ use tables::Shape;
 ghost use mathlib.Core.Path.{_≡_};
 ghost use mathlib.Core.List.{map};
 ghost use Prim.Native.Nat.{_+_, _<_, _≤_};
-ghost use lib.ListN.{length};
-ghost use Rattle.definition.specs.Book.{Book};
+ghost use lib.ListN.{length, set};
+ghost use Rattle.definition.specs.Book.{Book, most};
 ghost use Rattle.definition.specs.Tables.{site-at};
-ghost use Rattle.definition.specs.Scope.{binds, emit-bound, arm-states};
+ghost use Rattle.definition.specs.Scope.{matched, binds, emit-bound};
 ghost use Rattle.definition.specs.Plan.{place-at, places};
 ghost use Rattle.definition.specs.Tree.{place-word, pattern-words};
 ghost use Rattle.room.specs.Wrote.{Wrote};
 ghost use Rattle.tables.specs.Held.{shown};
 ghost use Rattle.scope.specs.Drawn.{Table, Drawn};
-ghost use Rattle.scope.specs.States.{With};
+ghost use Rattle.scope.specs.States.{arm-bindings, With};
 ghost use Rattle.scope.specs.Places.{site-in};
 
 // Whether `x` is a kind 7 site of source `s` and pattern `p`, its position below the field count.
@@ -57,14 +57,22 @@ fn emit_bound(sites: &[u32], n: usize, s: usize, p: Shape, scope: Scope) -> Scop
     next
 }
 
-// Internal: the scope inside the arm of pattern `p` on source `s`.
-pub fn enter_arm(sites: &[u32], n: usize, s: usize, p: Shape, scope: Scope) -> Scope
-    requires { ⌜ Table n (now sites) × (s < n) ⌝ }
-    ensures { λ r. ⌜ ((b : Book) → Drawn n (now (sites .entry)) b → With (arm-states b (scope .states) s (shown p)) scope r) ⌝ }
+// Internal: the scope that the arms of a Match on site `s` share: the site is Matched.
+pub fn match_source(scope: Scope, s: usize) -> Scope
+    requires { ⌜ s < most ⌝ }
+    ensures { λ r. ⌜ With (set (scope .states) s matched) scope r ⌝ }
 {
     let mut next = scope;
     set_ready(&mut next.states, s, MATCHED);
-    let bound = emit_bound(sites, n, s, p, next);
+    next
+}
+
+// Internal: the scope inside the arm of pattern `p`, from the one that the arms of the Match on `s` share.
+pub fn enter_arm(sites: &[u32], n: usize, s: usize, p: Shape, scope: Scope) -> Scope
+    requires { ⌜ Table n (now sites) ⌝ }
+    ensures { λ r. ⌜ ((b : Book) → Drawn n (now (sites .entry)) b → With (arm-bindings b s (shown p) (scope .states)) scope r) ⌝ }
+{
+    let bound = emit_bound(sites, n, s, p, scope);
     add_bindings(sites, n, bound)
 }
 

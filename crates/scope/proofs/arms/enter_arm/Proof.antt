@@ -1,12 +1,10 @@
--- `scope::arms::enter_arm` meets its contract: the source Matched, then the two passes.
+-- `scope::arms::enter_arm` meets its contract: the two passes, one behind the other.
 use mathlib.Core.Path.{_∙_, ap}
-use Rattle.definition.specs.Scope.{worked-out, emit-bound, arm-states}
+use Rattle.definition.specs.Scope.{worked-out}
 use borrow.Author.Needs.{needs}
+use Rattle.scope.specs.States.{arm-bindings}
 use Rattle.scope.proofs.arms.enter_arm.Statement.{statement}
 use Rattle.scope.proofs.arms.enter_arm.Tie as tie
-
-set-ready-requires : tie.Need-set-ready-requires
-set-ready-requires c κs = search needs
 
 emit-bound-requires : tie.Need-emit-bound-requires
 emit-bound-requires c κs = search needs
@@ -15,9 +13,8 @@ add-bindings-requires : tie.Need-add-bindings-requires
 add-bindings-requires c κs = search needs
 
 returns : tie.Need-returns
-unfolding arm-states
-returns c = λ b d. let w = c .add-bindings .ensures b d in let e = c .before .emit-bound .ensures b d in record { states = w .states ∙ ap (worked-out b) (e .states ∙ ap (emit-bound b _ _) (c .before .before .set-ready .ensures)); root = w .root ∙ e .root; rank = w .rank ∙ e .rank }
+unfolding arm-bindings
+returns c = λ b d. let w = c .add-bindings .ensures b d in let e = c .before .emit-bound .ensures b d in record { states = w .states ∙ ap (worked-out b) (e .states); root = w .root ∙ e .root; rank = w .rank ∙ e .rank }
 
 pub enter-arm-spec : {M : Type 1} → statement M
-enter-arm-spec =
-    tie.close (tie.spec set-ready-requires emit-bound-requires add-bindings-requires returns)
+enter-arm-spec = tie.close (tie.spec emit-bound-requires add-bindings-requires returns)
