@@ -8,10 +8,13 @@ use tests::greater;
 use tests::of_test;
 use tests::one_more;
 ghost use mathlib.Core.Path.{_≡_};
-ghost use Prim.Native.Nat.{_<_, max};
+ghost use mathlib.Core.List.{map};
+ghost use Prim.Native.Nat.{_*_, _<_, max};
 ghost use Rattle.definition.specs.Book.{most, slots};
-ghost use Rattle.definition.specs.Tables.{rule-at};
-ghost use Rattle.tables.specs.Held.{Held, Named};
+ghost use Rattle.definition.specs.Lists.{upto};
+ghost use Rattle.definition.specs.Tables.{rule-word, rule-at};
+ghost use Rattle.laws.specs.Ascending.{stands-in};
+ghost use Rattle.tables.specs.Held.{Held, Named, end-slot};
 ghost use Rattle.order.specs.Parts.{Parts, Names};
 ghost use Rattle.choice.specs.Worth.{worth-of, worth-from, Marks, marked-ends, Nears, decoded, constraints-worth, pair-worth, end-worth, pairs-worth, top-of, rule-worth, part-worth, Chosen};
 
@@ -19,6 +22,21 @@ pub enum Best {
     Match(u8),
     Equal(u8, u8),
     None,
+}
+
+// Whether site `x` is one of the first `k` ends of the pairs of rule `i`. Such an end was asked before.
+fn stands_before(rules: &[u32], i: usize, k: usize, x: usize) -> bool
+    requires { ⌜ Held (now rules) i × (k < 2 * rule-word slots (now rules) i 4) ⌝ }
+    ensures { λ r. ⌜ r ≡ stands-in (map (end-slot (now (rules .entry)) i) (upto k)) x ⌝ }
+{
+    let mut j: usize = 0;
+    while j < k {
+        if x == tables::rule_id(rules, i, 22 + j) {
+            return true;
+        }
+        j += 1;
+    }
+    false
 }
 
 // The greatest worth of a constraint of rule `i`, or `best`.
@@ -86,8 +104,12 @@ fn of_end(
     let mut k: usize = 0;
     while k < n {
         let y = tables::rule_id(rules, i, 22 + k);
-        most = of_two(rules, states, root, part, bar, i, x, y, most);
-        k += 1;
+        if stands_before(rules, i, k, y) {
+            k += 1;
+        } else {
+            most = of_two(rules, states, root, part, bar, i, x, y, most);
+            k += 1;
+        }
     }
     most
 }
@@ -110,8 +132,12 @@ fn of_pairs(
     let mut k: usize = 0;
     while k < n {
         let x = tables::rule_id(rules, i, 22 + k);
-        most = of_end(rules, states, root, part, bar, i, x, most);
-        k += 1;
+        if stands_before(rules, i, k, x) {
+            k += 1;
+        } else {
+            most = of_end(rules, states, root, part, bar, i, x, most);
+            k += 1;
+        }
     }
     most
 }
