@@ -1,14 +1,13 @@
 -- What is read of lets, places and patterns, and what of it is written.
 use mathlib.Core.Path.{_≡_, refl, sym, ap, subst, _∙_}
-use mathlib.Core.Bool.{Bool, true, false}
+use mathlib.Core.Bool.{Bool, true}
 use mathlib.Core.List.{List, [], _∷_, _++_, map}
 use mathlib.Core.Option.{Option, none}
 use Prim.Native.Nat.{ℕ, suc, _+_, _-_, _<_, _≤_}
 use native.Mathlib.Omega.{arith}
-use native.Mathlib.Numerals.{add-one}
 use lib.Dec.{leb, leb·suc-suc}
 use lib.ListN.{length, getD, take, drop, length-drop}
-use lib.Seq.{take-suc, length-take-le}
+use lib.Seq.{length-take-le}
 use borrow.Author.Tests.{eq-eqb, ne-eqb}
 use Rattle.definition.specs.Lists.{all, flat}
 use Rattle.definition.specs.Accept.{pattern-ok}
@@ -17,8 +16,8 @@ use Rattle.definition.specs.Read.{id-ok, place-ok, place-of, read-lets, read-pl
 use Rattle.definition.specs.Listing.{text, let-line, arm-line, place-text, places-text}
 use Rattle.laws.specs.Lending.{tail-part}
 use Rattle.laws.specs.Tests.{and}
-use Rattle.laws.specs.Turns.{all-append, all-map, front-stop}
-use Rattle.walk.proofs.Readers.{numbers-some, id-yes, at-one}
+use Rattle.walk.proofs.Readers.{id-yes, at-one}
+use Rattle.walk.proofs.Finds.{front-more, lets-found, place-fine, places-found, pattern-found}
 use Rattle.listing.specs.declared.Seen.{Seen}
 use Rattle.listing.specs.Writes.{Writes, places-head, arm-head}
 use Rattle.walk.specs.Ends.{pattern-at}
@@ -38,7 +37,6 @@ pub tail : {A : Type 0} {text : A → List ℕ} {l : List ℕ} {at : ℕ} {r : S
     → Ends text (read (take (length w - n) (drop n w))) (take (length w - n) (drop n w)) l at r m → Ends text (read (drop n w)) (drop n w) l at r m
 tail {A} {text} {l} {at} {r} {m} read w n e = subst (λ v. Ends text (read v) v l at r m) (tail-part w n) e
 
--- NUMBERS
 -- A LOOP over words: the first i of them pass the test q, and f of each is written
 pub record Taken (q : ℕ → Bool) (f : ℕ → List ℕ) (s : List ℕ) (i : ℕ) (l : List ℕ) (at pos : ℕ) (m : List ℕ) : Type 0 where
   pub pass : all q (take i s) ≡ true
@@ -49,10 +47,7 @@ taken-starts q f s l at = record { pass = refl; each = each-starts f s l at }
 
 pub taken-turn : {q : ℕ → Bool} {f : ℕ → List ℕ} {s : List ℕ} {i : ℕ} {l : List ℕ} {at pos : ℕ} {m : List ℕ} → Taken q f s i l at pos m → i < length s → q (getD s i 0) ≡ true
     → {next : ℕ} {m′ : List ℕ} → Writes m pos (f (getD s i 0)) next m′ → Taken q f s (i + 1) l at next m′
-taken-turn {q} {f} {s} {i} t h e w = record { pass = ap (all q) more ∙ all-append q (take i s) (getD s i 0 ∷ []) ∙ and (t .pass) (and e refl); each = each-turn (t .each) h w }
-  where
-    more : take (i + 1) s ≡ take i s ++ (getD s i 0 ∷ [])
-    more = ap (λ j. take j s) (add-one i) ∙ take-suc s i 0 h
+taken-turn {q} {f} {s} {i} t h e w = record { pass = front-more q s i (t .pass) h e; each = each-turn (t .each) h w }
 
 -- LETS: w's first word counts the ids after it
 abbrev pub Lets : List ℕ → List ℕ → ℕ → List ℕ → ℕ → ℕ → List ℕ → Type 0
@@ -64,18 +59,9 @@ lets-turn p w {i} t h k v = taken-turn t (simp length-drop (omega arith)) (id-ye
 
 pub lets-good : (p w : List ℕ) (n i : ℕ) {l : List ℕ} {at pos : ℕ} {m : List ℕ} → Lets p w i l at pos m → n ≡ getD w 0 0 → n < length w → i ≤ n → n ≤ i
     → Good (flat (let-line p)) (read-lets w) w l at (n + 1) pos m
-unfolding read-lets
-lets-good p [] n i t e k h g = absurd (omega arith)
-lets-good p (x ∷ w) n i {l} {at} {pos} {m} t e k h g =
-    let ei : i ≡ x = omega arith in
-    let en : n + 1 ≡ suc x = omega arith in
-    let t′ : Taken id-ok (let-line p) w x l at pos m = subst (λ j. Taken id-ok (let-line p) w j l at pos m) ei t in
-    record { thing = take x w; is = rw (numbers-some x w (omega arith), t′ .pass, en); within = omega arith; wrote = t′ .each .wrote }
+lets-good p w n i t e k h g = lets-found w n i (t .pass) (t .each .wrote) e k h g
 
 -- PLACES
-abbrev place-fine : ℕ → Bool
-place-fine x = place-ok (place-of x)
-
 abbrev place-said : ℕ → List ℕ
 place-said x = place-text (place-of x)
 
@@ -89,10 +75,6 @@ pub place-is : (x : ℕ) → (x ≡ 65535 → ⊥) → leb x 251 ≡ place-ok (p
 unfolding id-ok
 place-is x e = sym (rw (ne-eqb x 65535 e) (leb·suc-suc x 251))
 
-pub places-bad : (w : List ℕ) (n i : ℕ) → n ≤ length w → i < n → false ≡ place-ok (place-of (getD w i 0)) → read-places n w ≡ none
-unfolding read-places
-places-bad w n i k h e = rw (numbers-some n w k, all-map place-ok place-of (take n w), front-stop place-fine w i n h (omega arith) (sym e))
-
 -- what stands before the places, and the places
 said : (s : List ℕ) → places-head (length s) ++ flat place-said s ≡ places-text (map place-of s)
 said [] = refl
@@ -104,26 +86,14 @@ said (x ∷ s) = rw (ne-eqb (suc (length s)) 0 (λ e. omega arith)) (ap (λ t. t
 
 pub places-good : (w : List ℕ) (n c i : ℕ) {l : List ℕ} {at p : ℕ} {k : List ℕ} {pos : ℕ} {m : List ℕ} → n ≡ c → Writes l at (places-head n) p k → Places w i k p pos m → n ≤ length w → i ≤ n → n ≤ i
     → Good places-text (read-places c w) w l at n pos m
-unfolding read-places
 places-good w n c i {l} {at} {p} {k} {pos} {m} e v t h a b =
-    let ei : i ≡ n = omega arith in
-    let t′ : Places w n k p pos m = subst (λ j. Places w j k p pos m) ei t in
-    subst (λ x. Good places-text (read-places x w) w l at n pos m) e (record {
-      thing = map place-of (take n w);
-      is = rw (numbers-some n w h, all-map place-ok place-of (take n w), t′ .pass);
-      within = h;
-      wrote = writes-as (writes-then v (t′ .each .wrote)) (ap (λ j. places-head j ++ flat place-said (take n w)) (sym (length-take-le n w h)) ∙ said (take n w));
-    })
+    let j : n ≡ i = omega arith in
+    let lead : n ≡ length (take i w) = j ∙ sym (length-take-le i w (omega arith)) in
+    subst (λ x. Good places-text (read-places x w) w l at n pos m) e (places-found w n i (t .pass) (writes-as (writes-then v (t .each .wrote)) (ap (λ x. places-head x ++ flat place-said (take i w)) lead ∙ said (take i w))) h a b)
 
--- PATTERN: three words, and the places
+-- the pattern's line: its head, the places, and the line's end
 pub pattern-good : (p : List ℕ) (i : ℕ) (w : List ℕ) {n : ℕ} {l : List ℕ} {at a : ℕ} {k : List ℕ} {b : ℕ} {j : List ℕ} {r : ℕ} {m : List ℕ} → 3 ≤ length w
     → true ≡ pattern-ok (pattern-at (getD w 0 0) (signed (getD w 2 0)) (getD w 1 0)) → Writes l at (arm-head p i (getD w 0 0) (signed (getD w 2 0))) a k
     → Good places-text (read-places (getD w 1 0) (drop 3 w)) (drop 3 w) k a n b j → Writes j b (text "\n") r m → Good (pattern-text p i) (read-pattern w) w l at (n + 3) r m
-unfolding read-pattern arm-line
-pattern-good p i [] h e u g v = absurd (omega arith)
-pattern-good p i (a ∷ []) h e u g v = absurd (omega arith)
-pattern-good p i (a ∷ b ∷ []) h e u g v = absurd (omega arith)
-pattern-good p i (a ∷ b ∷ x ∷ w) {n} h e u g v =
-    let en : n + 3 ≡ suc (suc (suc n)) = omega arith in
-    let gw : n ≤ length w = g .within in
-    record { thing = (pattern-at a (signed x) b, g .thing); is = rw (← e, g .is, en); within = omega arith; wrote = writes-then (writes-then u (g .wrote)) v }
+unfolding arm-line
+pattern-good p i w h e u g v = pattern-found w h e g (λ ps t. writes-then (writes-then u t) v)

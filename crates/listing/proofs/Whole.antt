@@ -48,7 +48,7 @@ module _ (ws l : List ℕ) where
 
     wrote : Wrote l 0 (listing (g .thing)) r m
     unfolding listing
-    wrote = writes-as (g .wrote) (ap (λ q. steps-text q 1 (g .thing)) e) .is (omega arith)
+    wrote = writes-as (g .so) (ap (λ q. steps-text q 1 (g .thing)) e) .is (omega arith)
 
     pub lists : r ≤ length l → Leaves (listed ws l) (Listed.Bytes r) m
     unfolding written

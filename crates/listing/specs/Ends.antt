@@ -3,14 +3,15 @@ use mathlib.Core.Path.{_≡_}
 use mathlib.Core.Bool.{Bool, true, false}
 use mathlib.Core.List.{List, [], _∷_, _++_}
 use mathlib.Core.Option.{Option, none, some}
-use Prim.Native.Nat.{ℕ, _≤_}
-use lib.ListN.{length, drop}
+use Prim.Native.Nat.{ℕ}
+use lib.ListN.{drop}
 use Rattle.definition.specs.Book.{Pattern}
 use Rattle.definition.specs.Tree.{Block, Flow}
 use Rattle.definition.specs.Read.{Reader, read-flow}
 use Rattle.definition.specs.Lists.{flat}
 use Rattle.definition.specs.Listing.{let-line, arm-line, steps-text, flow-text}
 use Rattle.definition.specs.Answers.{Answer, refused, answered, Outcome}
+use Rattle.walk.specs.Found.{Found}
 use Rattle.listing.specs.declared.Seen.{Seen}
 use Rattle.listing.specs.declared.Seen.the-variants.{Tree, NoTree}
 use Rattle.listing.specs.declared.Listed.{Listed}
@@ -27,11 +28,8 @@ pub record Leaves (o : Outcome) (r : Listed) (m : List ℕ) : Type 0 where
   pub text : m ≡ o .room
 
 -- what is read first in w takes n words, and its text is written into l from `at` on
-pub record Good {A : Type 0} (text : A → List ℕ) (o : Option (A × List ℕ)) (w l : List ℕ) (at n r : ℕ) (m : List ℕ) : Type 0 where
-  pub thing : A
-  pub is : o ≡ some (thing, drop n w)
-  pub within : n ≤ length w
-  pub wrote : Writes l at (text thing) r m
+abbrev pub Good : {A : Type 0} (text : A → List ℕ) (o : Option (A × List ℕ)) (w l : List ℕ) (at n r : ℕ) (m : List ℕ) → Type 0
+Good text o w l at n r m = Found (λ x. Writes l at (text x) r m) o w n
 
 abbrev pub ends : {A : Type 0} (text : A → List ℕ) (o : Option (A × List ℕ)) (w l : List ℕ) (at : ℕ) (m : List ℕ) → Seen → Type 0
 ends text o w l at m NoTree = o ≡ none

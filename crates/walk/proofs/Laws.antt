@@ -16,12 +16,12 @@ use lib.Seq.{take-suc}
 use borrow.Author.Tests.{lt-leb, le-leb, eq-eqb, ne-eqb, leb-true, leb-false, ltb-true, ltb-false}
 use Rattle.definition.specs.Lists.{all, compare-signed}
 use Rattle.definition.specs.Walk.{Hit, holds, placed-in}
-use Rattle.definition.specs.Read.{id-ok, place-ok, read-lets, read-places, place-of}
+use Rattle.definition.specs.Read.{id-ok, read-lets, read-places, place-of}
 use Rattle.definition.specs.Tables.{signed}
 use Rattle.laws.specs.Tests.{and}
-use Rattle.laws.specs.Turns.{all-append, all-map, front-stop}
 use Rattle.laws.specs.Lending.{tail-part}
-use Rattle.walk.proofs.Readers.{numbers-some, id-yes, id-no, at-one}
+use Rattle.walk.proofs.Readers.{id-yes, id-no, at-one}
+use Rattle.walk.proofs.Finds.{front-more, lets-found, place-fine, places-found}
 use Rattle.walk.specs.declared.Stop.{Stop}
 use Rattle.walk.specs.declared.Seen.{Seen}
 use Rattle.walk.specs.Ends.{above, Good, Ends, ends, never, Held}
@@ -34,7 +34,6 @@ module _ {A : Type 0} {names : A → List ℕ} {stop : A → Option Hit} {o : Op
   pub told-good : {n t : ℕ} {h : Stop} → Ends names stop o w r → r ≡ Seen.Tree n t h → Good names stop o w n t h
   told-good e q = subst (ends names stop o w) q (e .is)
 
--- NUMBERS
 -- THE GREATEST ID
 pub above-append : (xs ys : List ℕ) → above (xs ++ ys) ≡ max (above xs) (above ys)
 unfolding above
@@ -60,10 +59,7 @@ pub upto-more : {q : ℕ → Bool} {f : List ℕ → ℕ} {l : List ℕ} {i t : 
     → (u : ℕ) → i < length l → q (getD l i 0) ≡ true → u ≡ max t (f (getD l i 0 ∷ [])) → Upto q f l (i + 1) u
 upto-more {q} {f} {l} {i} {t} p fa u h e g =
     let s : take (i + 1) l ≡ take i l ++ (getD l i 0 ∷ []) = rw add-one (take-suc l i 0 h) in
-    record {
-      pass = rw s (all-append q (take i l) (getD l i 0 ∷ []) ∙ and (p .pass) (and e refl));
-      top = g ∙ (rw s (let z = fa (take i l) (getD l i 0) in omega (arith, z, p .top)));
-    }
+    record { pass = front-more q l i (p .pass) h e; top = g ∙ (rw s (let z = fa (take i l) (getD l i 0) in omega (arith, z, p .top))) }
 
 above-snoc : (xs : List ℕ) (x : ℕ) → above (xs ++ (x ∷ [])) ≡ max (above xs) (above (x ∷ []))
 above-snoc xs x = above-append xs (x ∷ [])
@@ -85,18 +81,9 @@ lets-more w i t p u h k e =
     upto-more p above-snoc u (simp length-drop (omega arith)) (id-yes _ (rw (at-one w i) k)) (e ∙ ap (max t) (sym (above-one (getD w (i + 1) 0)) ∙ ap (λ x. above (x ∷ [])) (sym (at-one w i))))
 
 pub lets-good : (w : List ℕ) (n i t : ℕ) → Lets w i t → n ≡ getD w 0 0 → n < length w → i ≤ n → n ≤ i → Good (λ (l : List ℕ). l) never (read-lets w) w (n + 1) t Stop.Nowhere
-unfolding read-lets
-lets-good [] n i t p e k h g = absurd (omega arith)
-lets-good (x ∷ w) n i t p e k h g =
-    let ei : i ≡ x = omega arith in
-    let en : n + 1 ≡ suc x = omega arith in
-    let p′ : Upto id-ok above w x t = subst (λ j. Upto id-ok above w j t) ei p in
-    record { thing = take x w; is = rw (numbers-some x w (omega arith), p′ .pass, en); within = omega arith; top = p′ .top; met = refl }
+lets-good w n i t p e k h g = lets-found w n i (p .pass) (record { top = p .top; met = refl }) e k h g
 
 -- PLACES
-abbrev pub place-fine : ℕ → Bool
-place-fine x = place-ok (place-of x)
-
 abbrev pub places-top : List ℕ → ℕ
 places-top l = above (placed-in (map place-of l))
 
@@ -128,18 +115,11 @@ places-more w i t p u h k e =
     let n : eqb (getD w i 0) 65535 ≡ false = ne-eqb (getD w i 0) 65535 (λ q. omega arith) in
     upto-more p places-snoc u h (rw n (id-yes _ k)) (rw n (omega arith))
 
-pub places-bad : (w : List ℕ) (n i : ℕ) → n ≤ length w → i < n → (getD w i 0 ≡ 65535 → ⊥) → 251 < getD w i 0 → read-places n w ≡ none
-unfolding read-places
-places-bad w n i k h g b =
-    let e : place-fine (getD w i 0) ≡ false = rw (ne-eqb _ 65535 g) (id-no _ b) in
-    rw (numbers-some n w k, all-map place-ok place-of (take n w), front-stop place-fine w i n h (omega arith) e)
+pub place-bad : (x : ℕ) → (x ≡ 65535 → ⊥) → 251 < x → place-fine x ≡ false
+place-bad x g b = rw (ne-eqb x 65535 g) (id-no x b)
 
 pub places-good : (w : List ℕ) (n i t : ℕ) → Places w i t → n ≤ length w → i ≤ n → n ≤ i → Good placed-in never (read-places n w) w n t Stop.Nowhere
-unfolding read-places
-places-good w n i t p k h g =
-    let ei : i ≡ n = omega arith in
-    let p′ : Places w n t = subst (λ j. Places w j t) ei p in
-    record { thing = map place-of (take n w); is = rw (numbers-some n w k, all-map place-ok place-of (take n w), p′ .pass); within = k; top = p′ .top; met = refl }
+places-good w n i t p k h g = places-found w n i (p .pass) (record { top = p .top; met = refl }) k h g
 
 -- AN ARM HOLDS
 pub held-yes : (w k : List ℕ) (n : List ℤ) (s kd : ℕ) (a b : ℤ) (r : Bool) → kd ≡ getD k s 0 → kd ≡ getD w 0 0 → a ≡ getD n s (pos 0) → b ≡ signed (getD w 2 0) → SFits w32 a → SFits w32 b
@@ -156,7 +136,6 @@ held-no w k n s kd e₁ e₂ = record { is = λ i f h. rw (ne-eqb (getD k s 0) (
 pub held-short : (w k : List ℕ) (n : List ℤ) (s : ℕ) → length w < 3 → Held w k n s false
 held-short w k n s l = record { is = λ i f h. absurd (omega arith) }
 
--- FIRST HITS
 -- what a callee told of a part that runs to the end
 pub tail : {A : Type 0} {names : A → List ℕ} {stop : A → Option Hit} {r : Seen} (read : List ℕ → Option (A × List ℕ)) (w : List ℕ) (n : ℕ)
     → Ends names stop (read (take (length w - n) (drop n w))) (take (length w - n) (drop n w)) r → Ends names stop (read (drop n w)) (drop n w) r

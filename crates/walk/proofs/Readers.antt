@@ -190,10 +190,10 @@ module _ (sub : Reader Block) where
   steps-empty [] h = refl
   steps-empty (x ∷ w) h = absurd (omega arith)
 
-  pub counted : (w : List ℕ) → 0 < length w → read-steps sub (getD w 0 0 - 0) (drop 1 w) ≡ read-counted sub w
+  pub counted : (w : List ℕ) → 0 < length w → read-counted sub w ≡ read-steps sub (getD w 0 0) (drop 1 w)
   unfolding read-counted
   counted [] h = absurd (omega arith)
-  counted (x ∷ w) h = let e : x - 0 ≡ x = omega arith in rw e
+  counted (x ∷ w) h = refl
 
 -- PATTERNS
 zero-is : (w : ℕ) → eqb w 0 ≡ same-number (signed w) (pos 0)

@@ -1,12 +1,11 @@
 -- The loops over steps and over arms: what holds at the head, that a turn keeps it, and what follows at the ways out.
-use mathlib.Core.Path.{_≡_, refl, sym, ap, subst, _∙_}
+use mathlib.Core.Path.{_≡_, refl, sym, ap, _∙_}
 use mathlib.Core.Bool.{Bool, true, false, _&&_, not, false≢true}
 use mathlib.Core.List.{List, [], _∷_, _++_}
 use mathlib.Core.Option.{Option, none, some}
-use Prim.Native.Nat.{ℕ, suc, _+_, _-_, _<_, _≤_, max}
+use Prim.Native.Nat.{ℕ, _+_, _<_, _≤_, max}
 use native.Mathlib.Omega.{arith}
-use lib.ListN.{length, getD, drop, length-drop}
-use lib.Seq.{drop-drop}
+use lib.ListN.{length, getD, drop}
 use Rattle.definition.specs.Lists.{if_then_else_}
 use Rattle.definition.specs.Book.{Pattern}
 use Rattle.definition.specs.Accept.{pattern-ok}
@@ -19,19 +18,14 @@ use Rattle.walk.specs.Ends.{above, Good, stop-of, Held, pattern-at, arm-
 use Rattle.walk.proofs.Laws.{above-append}
 use Rattle.laws.specs.Firsts.{or-else, else-none, else-assoc, first-hit-append}
 use Rattle.laws.specs.Options.{bound, some-inj}
-use Rattle.walk.proofs.Readers.{id-yes, id-no, counted}
+use Rattle.walk.proofs.Readers.{counted}
+use Rattle.walk.proofs.Finds.{found-as, match-read}
+use Rattle.walk.proofs.Loops.{Loop, loop-starts, loop-stop, loop-turn, loop-ends, step-onto, arm-onto}
 
--- the whole is read from the rest: its top and its stop are these
-pub record To {B : Type 0} (names : B → List ℕ) (stop : B → Option Hit) (o : Option (B × List ℕ)) (r : List ℕ) (x : ℕ) (s : Option Hit) : Type 0 where
-  pub thing : B
-  pub is : o ≡ some (thing, r)
-  pub top : above (names thing) ≡ x
-  pub met : stop thing ≡ s
-
--- o′, the reading of what is left, settles o, that of the whole: t is the top of what is done, and f says where the whole stops
-pub record Onto {A B : Type 0} (nA : A → List ℕ) (sA : A → Option Hit) (nB : B → List ℕ) (sB : B → Option Hit) (t : ℕ) (f : Option Hit → Option Hit) (o′ : Option (A × List ℕ)) (o : Option (B × List ℕ)) : Type 0 where
-  pub fails : o′ ≡ none → o ≡ none
-  pub goes : (k : A) (r : List ℕ) → o′ ≡ some (k, r) → To nB sB o r (max t (above (nA k))) (f (sA k))
+-- of what is left, k, and the whole, b: t is the top of what is done, and f says where the whole stops
+pub record Sums {A B : Type 0} (nA : A → List ℕ) (sA : A → Option Hit) (nB : B → List ℕ) (sB : B → Option Hit) (t : ℕ) (f : Option Hit → Option Hit) (k : A) (b : B) : Type 0 where
+  pub top : above (nB b) ≡ max t (above (nA k))
+  pub met : sB b ≡ f (sA k)
 
 -- STEPS
 step-above : (l : List ℕ) (f : Flow) (k : Block) → above (sites-in (step l f k)) ≡ max (above (l ++ flow-sites f)) (above (sites-in k))
@@ -41,26 +35,14 @@ step-above l f k = above-append (l ++ flow-sites f) (sites-in k)
 module _ (d : Reading) (sub : Reader Block) where
   -- at the loop's head, before step i of n, at the position `at`
   pub record Steps (w : List ℕ) (n at t : ℕ) (p : Stop) (i : ℕ) : Type 0 where
-    pub some-left : i ≤ n
-    pub inside : at ≤ length w
-    pub onto : Onto sites-in (walk d) sites-in (walk d) t (or-else (stop-of p)) (read-steps sub (n - i) (drop at w)) (read-counted sub w)
+    pub loop : Loop (Sums sites-in (walk d) sites-in (walk d) t (or-else (stop-of p))) (read-steps sub) (read-counted sub w) w n at i
 
   pub steps-begin : (w : List ℕ) → 0 < length w → Steps w (getD w 0 0) 1 0 Stop.Nowhere 0
-  steps-begin w h = record {
-    some-left = omega arith;
-    inside = omega arith;
-    onto = record {
-      fails = λ q. sym (counted sub w h) ∙ q;
-      goes = λ k r q. record { thing = k; is = sym (counted sub w h) ∙ q; top = omega arith; met = refl };
-    };
-  }
+  steps-begin w h = record { loop = loop-starts (λ k. k) h (λ q. counted sub w h ∙ q) (λ k r q. counted sub w h ∙ q) (λ k. record { top = omega arith; met = refl }) }
 
   module _ {w : List ℕ} {n at t : ℕ} {p : Stop} {i : ℕ} (v : Steps w n at t p i) (h : i < n) where
-    one-more : n - i ≡ suc (n - (i + 1))
-    one-more = omega arith
-
     pub steps-stop : read-step sub (drop at w) ≡ none → read-counted sub w ≡ none
-    steps-stop q = v .onto .fails (rw (one-more, q))
+    steps-stop q = loop-stop (v .loop) (read-step sub) step-onto (λ m u. refl) h q
 
     pub steps-turn : (m u x : ℕ) (q y : Stop) → Good step-names (step-stop d) (read-step sub (drop at w)) (drop at w) m u q → x ≡ max t u → stop-of y ≡ or-else (stop-of p) (stop-of q) → Steps w n (at + m) x y (i + 1)
     unfolding walk hits
@@ -68,28 +50,16 @@ module _ (d : Reading) (sub : Reader Block) where
         let l = g .thing .0 in
         let f = g .thing .1 in
         record {
-          some-left = omega arith;
-          inside = omega (arith, g .within, length-drop at w, v .inside);
-          onto = record {
-            fails = λ e. v .onto .fails (rw (one-more, g .is, drop-drop m at w, e));
-            goes = λ k r e.
-                let z = v .onto .goes (step l f k) r (rw (one-more, g .is, drop-drop m at w, e)) in
-                record {
-                  thing = z .thing;
-                  is = z .is;
-                  top = omega (arith, z .top, ex, g .top, step-above l f k);
-                  met = z .met ∙ ap (or-else (stop-of p)) (first-hit-append (flow-hits d f) (hits d k) ∙ ap (λ o. or-else o (first-hit (hits d k))) (sym (g .met)))
-                      ∙ else-assoc (stop-of p) (stop-of q) (first-hit (hits d k)) ∙ ap (λ o. or-else o (first-hit (hits d k))) (sym ey);
-                };
-          };
+          loop = loop-turn (v .loop) (read-step sub) step-onto (λ m u. refl) h (g .thing) (g .is) (g .within) (λ k b z. record {
+            top = omega (arith, z .top, ex, g .so .top, step-above l f k);
+            met = z .met ∙ ap (or-else (stop-of p)) (first-hit-append (flow-hits d f) (hits d k) ∙ ap (λ o. or-else o (first-hit (hits d k))) (sym (g .so .met)))
+                ∙ else-assoc (stop-of p) (stop-of q) (first-hit (hits d k)) ∙ ap (λ o. or-else o (first-hit (hits d k))) (sym ey);
+          });
         }
 
   pub steps-done : {w : List ℕ} {n at t : ℕ} {p : Stop} {i : ℕ} → Steps w n at t p i → n ≤ i → Good sites-in (walk d) (read-counted sub w) w at t p
   unfolding sites-in walk hits above
-  steps-done {w} {n} {at} {t} {p} {i} v h =
-      let e : n - i ≡ 0 = omega arith in
-      let z = v .onto .goes end (drop at w) (rw e) in
-      record { thing = z .thing; is = z .is; within = v .inside; top = omega (arith, z .top); met = sym (z .met ∙ else-none (stop-of p)) }
+  steps-done {p = p} v h = found-as (loop-ends (v .loop) h end (λ u. refl)) (λ b z. record { top = omega (arith, z .top); met = sym (z .met ∙ else-none (stop-of p)) })
 
 -- ARMS
 -- the pattern of an arm stands in its first three words
@@ -134,41 +104,19 @@ shut-turn false held p y q h e f = absurd (false≢true f)
 module _ (d : Reading) (sub : Reader Block) where
   -- at the loop's head, before arm i of n, at the position `at`; w is the tag, the source s and the count, and the arms
   pub record ArmsAt (w : List ℕ) (s n at t : ℕ) (p : Stop) (free : Bool) (i : ℕ) : Type 0 where
-    pub some-left : i ≤ n
-    pub inside : at ≤ length w
     pub shut : free ≡ true → stop-of p ≡ none
-    pub onto : Onto arm-sites (arms-stop d s) flow-sites (flow-stop d) t (onward free p) (read-arms sub (n - i) (drop at w)) (read-flow sub 0 (drop 1 w))
-
-  pub arms-bad : (w : List ℕ) → 3 ≤ length w → 251 < getD w 1 0 → read-flow sub 0 (drop 1 w) ≡ none
-  unfolding read-flow
-  arms-bad [] h k = absurd (omega arith)
-  arms-bad (t ∷ []) h k = absurd (omega arith)
-  arms-bad (t ∷ a ∷ []) h k = absurd (omega arith)
-  arms-bad (t ∷ a ∷ n ∷ w) h k = rw (id-no a k)
+    pub loop : Loop (Sums arm-sites (arms-stop d s) flow-sites (flow-stop d) t (onward free p)) (read-arms sub) (read-flow sub 0 (drop 1 w)) w n at i
 
   pub arms-begin : (w : List ℕ) → 3 ≤ length w → getD w 1 0 ≤ 251 → ArmsAt w (getD w 1 0) (getD w 2 0) 3 (getD w 1 0 + 1) Stop.Nowhere true 0
-  unfolding read-flow flow-sites above flow-hits
-  arms-begin [] h k = absurd (omega arith)
-  arms-begin (t ∷ []) h k = absurd (omega arith)
-  arms-begin (t ∷ a ∷ []) h k = absurd (omega arith)
-  arms-begin (t ∷ a ∷ n ∷ w) h k =
-      let e : n - 0 ≡ n = omega arith in
-      record {
-        some-left = omega arith;
-        inside = omega arith;
-        shut = λ q. refl;
-        onto = record {
-          fails = λ q. let q′ : read-arms sub n w ≡ none = subst (λ j. read-arms sub j w ≡ none) e q in rw (id-yes a k, q′);
-          goes = λ m r q. let q′ : read-arms sub n w ≡ some (m, r) = subst (λ j. read-arms sub j w ≡ some (m, r)) e q in record { thing = match a m; is = rw (id-yes a k, q′); top = omega arith; met = refl };
-        };
-      }
+  unfolding flow-sites above flow-hits
+  arms-begin w h k = record {
+    shut = λ q. refl;
+    loop = loop-starts (match (getD w 1 0)) h (λ q. match-read sub w h k ∙ rw q) (λ m r q. match-read sub w h k ∙ rw q) (λ m. record { top = omega arith; met = refl });
+  }
 
   module _ {w : List ℕ} {s n at t : ℕ} {p : Stop} {free : Bool} {i : ℕ} (v : ArmsAt w s n at t p free i) (h : i < n) where
-    arm-more : n - i ≡ suc (n - (i + 1))
-    arm-more = omega arith
-
     pub arms-fail : read-arm sub (drop at w) ≡ none → read-flow sub 0 (drop 1 w) ≡ none
-    arms-fail q = v .onto .fails (rw (arm-more, q))
+    arms-fail q = loop-stop (v .loop) (read-arm sub) arm-onto (λ m u. refl) h q
 
     pub arms-turn : (m u x : ℕ) (q y : Stop) (held free′ : Bool) → Good arm-names (arm-stop d) (read-arm sub (drop at w)) (drop at w) m u q → Held (drop at w) (d .kinds) (d .numbers) s held
         → x ≡ max t u → stop-of y ≡ if_then_else_ (free && held) (stop-of q) (stop-of p) → free′ ≡ free && not held → ArmsAt w s n (at + m) x y free′ (i + 1)
@@ -180,21 +128,12 @@ module _ (d : Reading) (sub : Reader Block) where
         let ws = arm-words sub (drop at w) (g .thing) _ (g .is) in
         let eh : held ≡ holds d s b = hd .is (d .identities) (getD (drop at w) 1 0) (ws .0) ∙ ap (holds d s) (sym (ws .1)) in
         record {
-          some-left = omega arith;
-          inside = omega (arith, g .within, length-drop at w, v .inside);
           shut = λ e. shut-turn free held p y (stop-of q) (v .shut) ey (sym ef ∙ e);
-          onto = record {
-            fails = λ e. v .onto .fails (rw (arm-more, g .is, drop-drop m at w, e));
-            goes = λ k r e.
-                let z = v .onto .goes (arm b ps c k) r (rw (arm-more, g .is, drop-drop m at w, e)) in
-                record {
-                  thing = z .thing;
-                  is = z .is;
-                  top = omega (arith, z .top, ex, g .top, arm-above b ps c k);
-                  met = z .met ∙ ap (λ o. onward free p (first-hit (if_then_else_ o (hits d c) (arm-hits d s k)))) (sym eh) ∙ onward-turn free held p y (arm-hits d s k) c d (stop-of q) (g .met) ey
-                      ∙ ap (λ o. onward o y (first-hit (arm-hits d s k))) (sym ef);
-                };
-          };
+          loop = loop-turn (v .loop) (read-arm sub) arm-onto (λ m u. refl) h (g .thing) (g .is) (g .within) (λ k b′ z. record {
+            top = omega (arith, z .top, ex, g .so .top, arm-above b ps c k);
+            met = z .met ∙ ap (λ o. onward free p (first-hit (if_then_else_ o (hits d c) (arm-hits d s k)))) (sym eh) ∙ onward-turn free held p y (arm-hits d s k) c d (stop-of q) (g .so .met) ey
+                ∙ ap (λ o. onward o y (first-hit (arm-hits d s k))) (sym ef);
+          });
         }
 
   onward-none : (free : Bool) (p : Stop) → (free ≡ true → stop-of p ≡ none) → onward free p none ≡ stop-of p
@@ -203,7 +142,4 @@ module _ (d : Reading) (sub : Reader Block) where
 
   pub arms-done : {w : List ℕ} {s n at t : ℕ} {p : Stop} {free : Bool} {i : ℕ} → ArmsAt w s n at t p free i → n ≤ i → Good flow-sites (flow-stop d) (read-flow sub 0 (drop 1 w)) w at t p
   unfolding arm-sites arm-hits above
-  arms-done {w} {s} {n} {at} {t} {p} {free} {i} v h =
-      let e : n - i ≡ 0 = omega arith in
-      let z = v .onto .goes no-arms (drop at w) (rw e) in
-      record { thing = z .thing; is = z .is; within = v .inside; top = omega (arith, z .top); met = sym (z .met ∙ onward-none free p (v .shut)) }
+  arms-done {p = p} {free} v h = found-as (loop-ends (v .loop) h no-arms (λ u. refl)) (λ b z. record { top = omega (arith, z .top); met = sym (z .met ∙ onward-none free p (v .shut)) })

@@ -36,10 +36,10 @@ module _ (ws k : List ℕ) (z : List ℤ) (i : List ℕ) where
     module _ {n t : ℕ} {h : Stop} (g : Good sites-in (walk (reading k z i)) (read-block 9 ws) ws n t h) where
       named : covers (reading k z i) (g .thing) ≡ leb t (length k)
       unfolding covers smaller-than
-      named = above-all (sites-in (g .thing)) (length k) ∙ ap (λ x. leb x (length k)) (sym (g .top))
+      named = above-all (sites-in (g .thing)) (length k) ∙ ap (λ x. leb x (length k)) (sym (g .so .top))
 
       pub lacks : length k < t → Walked.Refused 12 ≡ told-as (walked ws (reading k z i))
       lacks l = rw (read, g .is, named, lt-leb t (length k) l)
 
       pub walks : t ≤ length k → told-as (answered (stop-of h)) ≡ told-as (walked ws (reading k z i))
-      walks l = rw (read, g .is, named, le-leb t (length k) l) (ap (λ o. told-as (answered o)) (g .met))
+      walks l = rw (read, g .is, named, le-leb t (length k) l) (ap (λ o. told-as (answered o)) (g .so .met))

@@ -12,6 +12,7 @@ use Rattle.definition.specs.Book.{Pattern}
 use Rattle.definition.specs.Tree.{Block, Flow, Arms}
 use Rattle.definition.specs.Walk.{Reading, Hit, flow-hits, arm-hits, first-hit, walk, holds, placed-in, sites-in, flow-sites}
 use Rattle.definition.specs.Answers.{Answer, refused, answered}
+use Rattle.walk.specs.Found.{Found}
 use Rattle.walk.specs.declared.Stop.{Stop}
 use Rattle.walk.specs.declared.Stop.the-variants.{At, Nowhere}
 use Rattle.walk.specs.declared.Seen.{Seen}
@@ -33,13 +34,13 @@ unfoldable pub above : List ℕ → ℕ
 above [] = 0
 above (x ∷ xs) = max (suc x) (above xs)
 
--- what is read first in w takes n words; its sites are below t, and no less; its walk stops as h says
-pub record Good {A : Type 0} (names : A → List ℕ) (stop : A → Option Hit) (o : Option (A × List ℕ)) (w : List ℕ) (n t : ℕ) (h : Stop) : Type 0 where
-  pub thing : A
-  pub is : o ≡ some (thing, drop n w)
-  pub within : n ≤ length w
-  pub top : t ≡ above (names thing)
-  pub met : stop-of h ≡ stop thing
+-- its sites are below t, and no less; its walk stops as h says
+pub record Told {A : Type 0} (names : A → List ℕ) (stop : A → Option Hit) (t : ℕ) (h : Stop) (x : A) : Type 0 where
+  pub top : t ≡ above (names x)
+  pub met : stop-of h ≡ stop x
+
+abbrev pub Good : {A : Type 0} (names : A → List ℕ) (stop : A → Option Hit) (o : Option (A × List ℕ)) (w : List ℕ) (n t : ℕ) (h : Stop) → Type 0
+Good names stop o w n t h = Found (Told names stop t h) o w n
 
 abbrev pub ends : {A : Type 0} (names : A → List ℕ) (stop : A → Option Hit) (o : Option (A × List ℕ)) (w : List ℕ) → Seen → Type 0
 ends names stop o w NoTree = o ≡ none

@@ -7,8 +7,6 @@ use Prim.Native.Nat.{_-_}
 use lib.ListN.{length}
 use Rattle.listing.proofs.clear.Statement.{statement}
 use Rattle.listing.proofs.clear.Tie as tie
-use Rattle.listing.proofs.clear.Reads as reads
-use Rattle.listing.proofs.clear.Lts as lts
 
 abbrev Inv-loop : tie.InvT-loop
 Inv-loop text₀ k₀ text k = Each nought text₀ k text₀ 0 k text × (length text ≡ length text₀)

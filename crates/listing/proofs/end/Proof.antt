@@ -1,16 +1,14 @@
 -- `end` meets its contract: four words, two of them ids, and the line of the Return.
 use native.Mathlib.Omega.{arith}
-use Rattle.listing.proofs.Parts.{return-short, return-rule, return-result, return-good}
+use Rattle.walk.proofs.Finds.{return-short, return-rule, return-result}
+use Rattle.listing.proofs.Parts.{return-good}
 use borrow.Author.Needs.{needs}
 use Rattle.listing.proofs.end.Statement.{statement}
 use Rattle.listing.proofs.end.Tie as tie
-use Rattle.listing.proofs.end.Reads as reads
-use Rattle.listing.proofs.end.Lts as lts
-use Rattle.listing.proofs.line.put_return.Reads as put-return-reads
 
 -- src/lib.rt:135:9
 returns : tie.Need-returns
-returns c = return-short _ _ (c .before .before .before .args .w .now) (c .before .before .before .pre .0) (c .if1 .taken)
+returns c = record { is = λ sub. record { is = return-short sub (c .before .before .before .args .w .now) (c .before .before .before .pre .0) (c .if1 .taken) } }
 
 -- src/lib.rt:137:16
 shared-slice-read-rule : tie.Need-shared-slice-read-rule
@@ -18,7 +16,7 @@ shared-slice-read-rule c = search needs
 
 -- src/lib.rt:139:9
 returns-2 : tie.Need-returns-2
-returns-2 c = return-rule _ _ (c .before .before .before .before .before .args .w .now) (omega arith) (omega arith)
+returns-2 c = record { is = λ sub. record { is = return-rule sub (c .before .before .before .before .before .args .w .now) (omega arith) (omega arith) } }
 
 -- src/lib.rt:141:18
 shared-slice-read-result : tie.Need-shared-slice-read-result
@@ -26,7 +24,7 @@ shared-slice-read-result c = search needs
 
 -- src/lib.rt:143:9
 returns-3 : tie.Need-returns-3
-returns-3 c = return-result _ _ (c .before .before .before .before .before .before .before .args .w .now) (omega arith) (omega arith)
+returns-3 c = record { is = λ sub. record { is = return-result sub (c .before .before .before .before .before .before .before .args .w .now) (omega arith) (omega arith) } }
 
 -- src/lib.rt:147:41
 shared-slice-read-put-return : tie.Need-shared-slice-read-put-return

@@ -5,9 +5,6 @@ use borrow.Author.Needs.{needs}
 use Rattle.listing.proofs.is_tree.Statement.{statement}
 use Rattle.listing.proofs.is_tree.Tie as tie
 use Rattle.listing.proofs.is_tree.Reads as reads
-use Rattle.listing.proofs.is_tree.Lts as lts
-use Rattle.listing.proofs.block.Reads as block-reads
-use Rattle.listing.proofs.line.root.Reads as root-reads
 
 -- src/lib.rt:318:29
 root-requires : tie.Need-root-requires

@@ -8,10 +8,6 @@ use Rattle.listing.specs.Writes.{numbers-of}
 use Rattle.listing.proofs.Reading.{Lets, taken-starts, lets-turn, lets-good}
 use Rattle.listing.proofs.lets.Statement.{statement}
 use Rattle.listing.proofs.lets.Tie as tie
-use Rattle.listing.proofs.lets.Reads as reads
-use Rattle.listing.proofs.lets.Lts as lts
-use Rattle.listing.proofs.line.put_let.Reads as put-let-reads
-use Rattle.listing.proofs.wide.Reads as wide-reads
 use Rattle.walk.proofs.Readers.{lets-empty, lets-short, lets-bad}
 
 abbrev Inv-loop : tie.InvT-loop

@@ -8,12 +8,6 @@ use Rattle.listing.proofs.Whole.{root-path, not-read, never-both, no-tr
 use borrow.Author.Needs.{needs}
 use Rattle.listing.proofs.list.Statement.{statement}
 use Rattle.listing.proofs.list.Tie as tie
-use Rattle.listing.proofs.list.Reads as reads
-use Rattle.listing.proofs.list.Lts as lts
-use Rattle.listing.proofs.block.Reads as block-reads
-use Rattle.listing.proofs.clear.Reads as clear-reads
-use Rattle.listing.proofs.is_tree.Reads as is-tree-reads
-use Rattle.listing.proofs.line.root.Reads as root-reads
 
 -- src/lib.rt:330:9
 is-tree-requires : tie.Need-is-tree-requires

@@ -9,12 +9,6 @@ use Rattle.listing.proofs.Reading.{tail, told-none, told-good, pattern-
 use borrow.Author.Needs.{needs}
 use Rattle.listing.proofs.pattern.Statement.{statement}
 use Rattle.listing.proofs.pattern.Tie as tie
-use Rattle.listing.proofs.pattern.Reads as reads
-use Rattle.listing.proofs.pattern.Lts as lts
-use Rattle.listing.proofs.line.put_arm.Reads as put-arm-reads
-use Rattle.listing.proofs.line.put_byte.Reads as put-byte-reads
-use Rattle.walk.proofs.pattern_ok.Reads as pattern-ok-reads
-use Rattle.listing.proofs.places.Reads as places-reads
 
 -- src/lib.rt:116:9
 returns : tie.Need-returns

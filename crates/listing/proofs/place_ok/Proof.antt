@@ -2,8 +2,6 @@
 use Rattle.listing.proofs.Reading.{place-yes, place-is}
 use Rattle.listing.proofs.place_ok.Statement.{statement}
 use Rattle.listing.proofs.place_ok.Tie as tie
-use Rattle.listing.proofs.place_ok.Reads as reads
-use Rattle.listing.proofs.place_ok.Lts as lts
 
 -- src/lib.rt:59:1
 returns : tie.Need-returns

@@ -5,15 +5,10 @@ use native.Mathlib.Omega.{arith}
 use mathlib.Core.Path.{_≡_, sym, _∙_}
 use Prim.Native.Nat.{_≤_, _-_}
 use lib.ListN.{length}
-use Rattle.listing.proofs.Reading.{Places, taken-starts, taken-turn, places-bad, places-good}
+use Rattle.listing.proofs.Reading.{Places, taken-starts, taken-turn, places-good}
+use Rattle.walk.proofs.Finds.{places-bad}
 use Rattle.listing.proofs.places.Statement.{statement}
 use Rattle.listing.proofs.places.Tie as tie
-use Rattle.listing.proofs.places.Reads as reads
-use Rattle.listing.proofs.places.Lts as lts
-use Rattle.listing.proofs.line.put_place.Reads as put-place-reads
-use Rattle.listing.proofs.line.put_places.Reads as put-places-reads
-use Rattle.listing.proofs.place_ok.Reads as place-ok-reads
-use Rattle.listing.proofs.wide.Reads as wide-reads
 use Rattle.walk.proofs.Readers.{places-short}
 
 abbrev Inv-loop : tie.InvT-loop
@@ -56,7 +51,7 @@ same-length c = search needs
 
 -- src/lib.rt:102:13
 returns-2 : tie.Need-returns-2 Inv-loop μ-loop
-returns-2 c = record { is = places-bad (c .before .before .before .before .before .before .before .before .before .before .before .before .before .args .w .now) (c .before .before .before .before .before .before .before .before .before .before .before .before .before .args .count) (c .before .before .before .before .loop .i) (omega arith) (omega arith) (sym (not-true (c .before .place-ok .result) (c .if2 .taken)) ∙ c .before .place-ok .ensures) }
+returns-2 c = record { is = places-bad (c .before .before .before .before .before .before .before .before .before .before .before .before .before .args .w .now) (c .before .before .before .before .before .before .before .before .before .before .before .before .before .args .count) (c .before .before .before .before .loop .i) (omega arith) (omega arith) (sym (c .before .place-ok .ensures) ∙ not-true (c .before .place-ok .result) (c .if2 .taken)) }
 
 -- src/lib.rt:104:31
 mul-put-place : tie.Need-mul-put-place Inv-loop μ-loop

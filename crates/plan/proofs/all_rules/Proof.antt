@@ -7,8 +7,6 @@ use borrow.Author.Needs.{needs}
 use Rattle.laws.specs.Loops.{Filled, fill-starts, fill-turn}
 use Rattle.plan.proofs.all_rules.Statement.{statement}
 use Rattle.plan.proofs.all_rules.Tie as tie
-use Rattle.plan.proofs.all_rules.Reads as reads
-use Rattle.plan.proofs.all_rules.Lts as lts
 
 abbrev Inv-loop : tie.InvT-loop
 Inv-loop order₀ i₀ order i = Filled (λ k. k) i order₀ order × ((i ≤ 252) × (length order₀ ≡ 252))

@@ -7,8 +7,6 @@ use borrow.Author.Needs.{needs}
 use Rattle.laws.specs.Loops.{Filled, fill-starts, fill-turn, all-zero}
 use Rattle.plan.proofs.clear.Statement.{statement}
 use Rattle.plan.proofs.clear.Tie as tie
-use Rattle.plan.proofs.clear.Reads as reads
-use Rattle.plan.proofs.clear.Lts as lts
 
 abbrev Inv-loop : tie.InvT-loop
 Inv-loop room₀ k₀ room k = Filled (λ _. 0) k room₀ room

@@ -6,11 +6,6 @@ use Rattle.plan.proofs.Rooting.{tree-fits, tree-short}
 use borrow.Author.Needs.{needs}
 use Rattle.plan.proofs.put_tree.Statement.{statement}
 use Rattle.plan.proofs.put_tree.Tie as tie
-use Rattle.plan.proofs.put_tree.Reads as reads
-use Rattle.plan.proofs.put_tree.Lts as lts
-use Rattle.plan.proofs.clear.Reads as clear-reads
-use Rattle.plan.proofs.enough.Reads as enough-reads
-use Rattle.plan.proofs.root_block.Reads as root-block-reads
 
 -- src/lib.rt:432:9
 enough-requires : tie.Need-enough-requires

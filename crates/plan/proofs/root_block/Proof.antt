@@ -9,11 +9,6 @@ use Rattle.plan.proofs.Rooting.{root-planning, root-made}
 use borrow.Author.Needs.{needs}
 use Rattle.plan.proofs.root_block.Statement.{statement}
 use Rattle.plan.proofs.root_block.Tie as tie
-use Rattle.plan.proofs.root_block.Reads as reads
-use Rattle.plan.proofs.root_block.Lts as lts
-use Rattle.plan.proofs.all_rules.Reads as all-rules-reads
-use Rattle.plan.proofs.blocks.sort.Reads as sort-reads
-use Rattle.scope.proofs.states.root_scope.Reads as root-scope-reads
 
 -- src/lib.rt:414:21
 all-rules-requires : tie.Need-all-rules-requires

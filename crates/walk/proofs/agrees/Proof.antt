@@ -1,9 +1,7 @@
+-- `agrees` meets its contract: the identities of two sites are one.
 use borrow.Author.Needs.{needs}
 use Rattle.walk.proofs.agrees.Statement.{statement}
 use Rattle.walk.proofs.agrees.Tie as tie
-use Rattle.walk.proofs.agrees.Reads as reads
-use Rattle.walk.proofs.agrees.Lts as lts
-use Rattle.walk.proofs.identity_at.Reads as identity-at-reads
 
 identity-at-requires : tie.Need-identity-at-requires
 identity-at-requires c κs = search needs

@@ -1,25 +1,25 @@
+-- `end` meets its contract: four words, two of them ids.
 use native.Mathlib.Omega.{arith}
-use Rattle.walk.proofs.Parts.{return-short, return-rule, return-result, return-good}
+use Rattle.walk.proofs.Finds.{return-short, return-rule, return-result}
+use Rattle.walk.proofs.Parts.{return-good}
 use borrow.Author.Needs.{needs}
 use Rattle.walk.proofs.end.Statement.{statement}
 use Rattle.walk.proofs.end.Tie as tie
-use Rattle.walk.proofs.end.Reads as reads
-use Rattle.walk.proofs.end.Lts as lts
 
 returns : tie.Need-returns
-returns c = return-short (c .before .args .w .now) (c .before .pre) (c .if1 .taken)
+returns c = record { is = λ d sub. record { is = return-short sub (c .before .args .w .now) (c .before .pre) (c .if1 .taken) } }
 
 shared-slice-read-i : tie.Need-shared-slice-read-i
 shared-slice-read-i c = search needs
 
 returns-2 : tie.Need-returns-2
-returns-2 c = return-rule (c .before .before .before .args .w .now) (omega arith) (omega arith)
+returns-2 c = record { is = λ d sub. record { is = return-rule sub (c .before .before .before .args .w .now) (omega arith) (omega arith) } }
 
 shared-slice-read-r : tie.Need-shared-slice-read-r
 shared-slice-read-r c = search needs
 
 returns-3 : tie.Need-returns-3
-returns-3 c = return-result (c .before .before .before .before .before .args .w .now) (omega arith) (omega arith)
+returns-3 c = record { is = λ d sub. record { is = return-result sub (c .before .before .before .before .before .args .w .now) (omega arith) (omega arith) } }
 
 add-t7 : tie.Need-add-t7
 add-t7 c = search needs

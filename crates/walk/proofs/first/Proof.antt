@@ -1,8 +1,7 @@
+-- `first` meets its contract: the second stop counts where the first is none.
 use borrow.Author.Needs.{needs}
 use Rattle.walk.proofs.first.Statement.{statement}
 use Rattle.walk.proofs.first.Tie as tie
-use Rattle.walk.proofs.first.Reads as reads
-use Rattle.walk.proofs.first.Lts as lts
 
 enum-known-a : tie.Need-enum-known-a
 enum-known-a c = search needs

@@ -1,13 +1,8 @@
+-- `fits` meets its contract: an arm holds where kind and number agree.
 use Rattle.walk.proofs.Laws.{held-yes, held-no, held-short}
 use borrow.Author.Needs.{needs}
 use Rattle.walk.proofs.fits.Statement.{statement}
 use Rattle.walk.proofs.fits.Tie as tie
-use Rattle.walk.proofs.fits.Reads as reads
-use Rattle.walk.proofs.fits.Lts as lts
-use Rattle.walk.proofs.kind_at.Reads as kind-at-reads
-use Rattle.walk.proofs.number.Reads as number-reads
-use Rattle.walk.proofs.number_at.Reads as number-at-reads
-use Rattle.walk.proofs.same.Reads as same-reads
 
 returns : tie.Need-returns
 returns c = let a = c .before .before .before .args in held-short (a .w .now) (a .kinds .now) (a .numbers .now) (a .s) (c .if1 .taken)

@@ -1,12 +1,10 @@
+-- `identity_at` meets its contract: behind the list every identity is 0.
 use mathlib.Core.Path.{sym}
 use native.Mathlib.Omega.{arith}
 use lib.ListN.{List·getD-eq-default}
 use borrow.Author.Needs.{needs}
 use Rattle.walk.proofs.identity_at.Statement.{statement}
 use Rattle.walk.proofs.identity_at.Tie as tie
-use Rattle.walk.proofs.identity_at.Reads as reads
-use Rattle.walk.proofs.identity_at.Lts as lts
-use Rattle.walk.proofs.wide.Reads as wide-reads
 
 wide-requires : tie.Need-wide-requires
 wide-requires c κs = search needs

@@ -1,13 +1,10 @@
+-- The loop's invariant: the lets before i are ids, and `top` is one more than the greatest.
 use Rattle.walk.proofs.Laws.{Lets, lets-begin, lets-more, lets-good}
 use Prim.Native.Nat.{_≤_, _-_}
 use native.Mathlib.Omega.{arith}
 use borrow.Author.Needs.{needs}
 use Rattle.walk.proofs.lets.Statement.{statement}
 use Rattle.walk.proofs.lets.Tie as tie
-use Rattle.walk.proofs.lets.Reads as reads
-use Rattle.walk.proofs.lets.Lts as lts
-use Rattle.walk.proofs.greater.Reads as greater-reads
-use Rattle.walk.proofs.wide.Reads as wide-reads
 use Rattle.walk.proofs.Readers.{lets-empty, lets-short, lets-bad}
 
 abbrev Inv-loop : tie.InvT-loop

@@ -1,9 +1,8 @@
+-- `number` meets its contract: a word of 2^31 or more is its two's complement.
 use Rattle.walk.proofs.Ints.{high-fits, low-is, high-is}
 use borrow.Author.Needs.{needs}
 use Rattle.walk.proofs.number.Statement.{statement}
 use Rattle.walk.proofs.number.Tie as tie
-use Rattle.walk.proofs.number.Reads as reads
-use Rattle.walk.proofs.number.Lts as lts
 
 cast-result : tie.Need-cast-result
 cast-result c = search needs

@@ -1,3 +1,4 @@
+-- `number_at` meets its contract: behind the list every number is 0.
 use mir.Facts.{toZ-ofZ}
 use mir.Syntax.{w32}
 use mathlib.Core.Path.{sym}
@@ -7,9 +8,6 @@ use lib.IntN.{pos}
 use borrow.Author.Needs.{needs}
 use Rattle.walk.proofs.number_at.Statement.{statement}
 use Rattle.walk.proofs.number_at.Tie as tie
-use Rattle.walk.proofs.number_at.Reads as reads
-use Rattle.walk.proofs.number_at.Lts as lts
-use Rattle.walk.proofs.wide.Reads as wide-reads
 
 wide-requires : tie.Need-wide-requires
 wide-requires c κs = search needs

@@ -1,3 +1,4 @@
+-- `pattern` meets its contract: three words, and the places.
 use borrow.Author.Tests.{not-true, not-false}
 use mathlib.Core.Path.{sym, _∙_}
 use native.Mathlib.Omega.{arith}
@@ -9,10 +10,6 @@ use Rattle.walk.proofs.Parts.{pattern-good}
 use borrow.Author.Needs.{needs}
 use Rattle.walk.proofs.pattern.Statement.{statement}
 use Rattle.walk.proofs.pattern.Tie as tie
-use Rattle.walk.proofs.pattern.Reads as reads
-use Rattle.walk.proofs.pattern.Lts as lts
-use Rattle.walk.proofs.pattern_ok.Reads as pattern-ok-reads
-use Rattle.walk.proofs.places.Reads as places-reads
 
 returns : tie.Need-returns
 returns c = record { is = pattern-short (c .before .before .args .w .now) (omega arith) }

@@ -1,7 +1,6 @@
+-- `pattern_ok` meets its contract, kind by kind.
 use Rattle.walk.proofs.pattern_ok.Statement.{statement}
 use Rattle.walk.proofs.pattern_ok.Tie as tie
-use Rattle.walk.proofs.pattern_ok.Reads as reads
-use Rattle.walk.proofs.pattern_ok.Lts as lts
 use Rattle.walk.proofs.Readers.{kind-low, kind-two, kind-three, kind-fields, kind-high}
 
 returns : tie.Need-returns

@@ -1,13 +1,11 @@
-use Rattle.walk.proofs.Laws.{Places, places-begin, places-empty, places-more, places-bad, places-good}
+-- The loop's invariant: the places before i are ids or empty, and `top` is one more than the greatest id.
+use Rattle.walk.proofs.Laws.{Places, places-begin, places-empty, places-more, place-bad, places-good}
+use Rattle.walk.proofs.Finds.{places-bad}
 use Prim.Native.Nat.{_≤_, _-_}
 use native.Mathlib.Omega.{arith}
 use borrow.Author.Needs.{needs}
 use Rattle.walk.proofs.places.Statement.{statement}
 use Rattle.walk.proofs.places.Tie as tie
-use Rattle.walk.proofs.places.Reads as reads
-use Rattle.walk.proofs.places.Lts as lts
-use Rattle.walk.proofs.greater.Reads as greater-reads
-use Rattle.walk.proofs.wide.Reads as wide-reads
 use Rattle.walk.proofs.Readers.{places-short}
 
 abbrev Inv-loop : tie.InvT-loop
@@ -41,7 +39,7 @@ loop-again : tie.Need-loop-again Inv-loop μ-loop
 loop-again c = (omega arith, places-empty (c .before .before .before .before .before .before .before .args .w .now) (c .before .before .before .loop .i) (c .before .before .before .loop .top) (c .before .before .before .loop .inv .1) (omega arith) (c .if2 .taken))
 
 returns-2 : tie.Need-returns-2 Inv-loop μ-loop
-returns-2 c = record { is = places-bad (c .before .before .before .before .before .before .before .before .args .w .now) (c .before .before .before .before .before .before .before .before .args .count) (c .before .before .before .before .loop .i) (omega arith) (omega arith) (c .before .if2 .left) (omega arith) }
+returns-2 c = record { is = places-bad (c .before .before .before .before .before .before .before .before .args .w .now) (c .before .before .before .before .before .before .before .before .args .count) (c .before .before .before .before .loop .i) (omega arith) (omega arith) (place-bad _ (c .before .if2 .left) (omega arith)) }
 
 add-greater : tie.Need-add-greater Inv-loop μ-loop
 add-greater c = search needs

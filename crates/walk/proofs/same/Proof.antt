@@ -1,8 +1,7 @@
+-- `same` meets its contract: two numbers that fit 32 bits are one where they compare so.
 use Rattle.walk.proofs.Ints.{same-is}
 use Rattle.walk.proofs.same.Statement.{statement}
 use Rattle.walk.proofs.same.Tie as tie
-use Rattle.walk.proofs.same.Reads as reads
-use Rattle.walk.proofs.same.Lts as lts
 
 returns : tie.Need-returns
 returns c = same-is (c .args .a) (c .args .b) (c .fits .a) (c .fits .b)

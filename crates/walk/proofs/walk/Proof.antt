@@ -1,3 +1,4 @@
+-- `walk` meets its contract: the lengths, the tree, its sites, then where the walk stops.
 use mathlib.Core.Path.{sym, _∙_, ap}
 use native.Mathlib.Omega.{arith}
 use Rattle.definition.specs.Answers.{answered}
@@ -7,10 +8,6 @@ use Rattle.walk.proofs.Whole.{differ, differ-ids, no-tree, lacks, walks
 use borrow.Author.Needs.{needs}
 use Rattle.walk.proofs.walk.Statement.{statement}
 use Rattle.walk.proofs.walk.Tie as tie
-use Rattle.walk.proofs.walk.Reads as reads
-use Rattle.walk.proofs.walk.Lts as lts
-use Rattle.walk.proofs.block.Reads as block-reads
-use Rattle.walk.proofs.wide.Reads as wide-reads
 
 returns : tie.Need-returns
 returns c = differ (c .before .before .before .before .args .words .now) (c .before .before .before .before .args .kinds .now) (c .before .before .before .before .args .numbers .now) (c .before .before .before .before .args .identities .now) (c .if1 .taken)

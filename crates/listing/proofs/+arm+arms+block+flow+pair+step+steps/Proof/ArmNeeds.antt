@@ -10,8 +10,9 @@ use Rattle.walk.proofs.Readers.{sum-within, arm-none}
 use Rattle.listing.specs.Writes.{numbers-of}
 use Rattle.listing.proofs.Writing.{room-less}
 use Rattle.listing.proofs.Reading.{tail, told-none, told-good}
-use Rattle.listing.proofs.Parts.{arm-stops, arm-good}
-use Rattle.listing.proofs.Turns.{ArmsAt, arms-bad, arms-begin, arms-fail, arms-turn, arms-done}
+use Rattle.walk.proofs.Finds.{arm-stops, match-bad}
+use Rattle.listing.proofs.Parts.{arm-good}
+use Rattle.listing.proofs.Turns.{ArmsAt, arms-begin, arms-fail, arms-turn, arms-done}
 use borrow.Fn.PlainCycle.{is}
 use Rattle.listing.proofs.arm.Reads as arm
 use Rattle.listing.proofs.+arm+arms+block+flow+pair+step+steps.Lts-arm as arm-lts
@@ -62,7 +63,7 @@ pub arm-same-length-2 : (t : ℕ) → arm-lts.Need-same-length-2 (arm-claims t) 
 arm-same-length-2 t c = search needs
 
 pub arm-returns-2 : (t : ℕ) → arm-lts.Need-returns-2 (arm-claims t) (arm-at t) arm.Post
-arm-returns-2 t c = record { is = arm-stops (numbers-of (c .before .before .before .before .before .before .before .before .before .before .before .before .before .before .before .before .before .args .path)) (c .before .before .before .before .before .before .before .before .before .before .before .before .before .before .before .before .before .args .i) (read-block (c .before .before .before .before .before .before .before .before .before .before .before .before .before .before .before .before .before .args .left)) (c .before .before .before .before .before .before .before .before .before .before .before .before .before .before .before .before .before .args .w .now) (told-good (c .before .before .before .before .before .before .before .before .before .before .before .before .before .pattern .ensures) (c .before .before .before .before .before .before .before .before .before .seen .given .1)) (told-none (tail (read-block (c .before .before .before .before .before .before .before .before .before .before .before .before .before .before .before .before .before .args .left)) (c .before .before .before .before .before .before .before .before .before .before .before .before .before .before .before .before .before .args .w .now) _ (c .before .before .before .before .block .ensures)) (c .enum-told2 .given .1)) }
+arm-returns-2 t c = record { is = arm-stops (read-block (c .before .before .before .before .before .before .before .before .before .before .before .before .before .before .before .before .before .args .left)) (c .before .before .before .before .before .before .before .before .before .before .before .before .before .before .before .before .before .args .w .now) (told-good (c .before .before .before .before .before .before .before .before .before .before .before .before .before .pattern .ensures) (c .before .before .before .before .before .before .before .before .before .seen .given .1)) (told-none (tail (read-block (c .before .before .before .before .before .before .before .before .before .before .before .before .before .before .before .before .before .args .left)) (c .before .before .before .before .before .before .before .before .before .before .before .before .before .before .before .before .before .args .w .now) _ (c .before .before .before .before .block .ensures)) (c .enum-told2 .given .1)) }
 
 pub arm-add-t16 : (t : ℕ) → arm-lts.Need-add-t16 (arm-claims t) (arm-at t) arm.Post
 arm-add-t16 t c = omega (arith, sum-within (c .before .before .before .before .before .before .before .before .before .before .before .before .before .before .before .before .before .before .args .w .now) _ _ ((told-good (c .before .before .before .before .before .before .before .before .before .before .before .before .before .before .pattern .ensures) (c .before .before .before .before .before .before .before .before .before .before .seen .given .1)) .within) (told-good (tail (read-block (c .before .before .before .before .before .before .before .before .before .before .before .before .before .before .before .before .before .before .args .left)) (c .before .before .before .before .before .before .before .before .before .before .before .before .before .before .before .before .before .before .args .w .now) _ (c .before .before .before .before .before .block .ensures)) (c .before .after .given .1) .within))
@@ -83,7 +84,7 @@ pub arms-shared-slice-read-s : (t : ℕ) → arms-lts.Need-shared-slice-read-s (
 arms-shared-slice-read-s t c = search needs
 
 pub arms-returns : (t : ℕ) → arms-lts.Need-returns (arms-claims t) (arms-at t) arms.Post arms-Inv-loop arms-μ-loop
-arms-returns t c = record { is = arms-bad (read-block (c .before .before .before .before .args .left)) (c .before .before .before .before .args .w .now) (omega arith) (omega arith) }
+arms-returns t c = record { is = match-bad (read-block (c .before .before .before .before .args .left)) (c .before .before .before .before .args .w .now) (omega arith) (omega arith) }
 
 pub arms-shared-slice-read-n : (t : ℕ) → arms-lts.Need-shared-slice-read-n (arms-claims t) (arms-at t) arms.Post arms-Inv-loop arms-μ-loop
 arms-shared-slice-read-n t c = search needs
@@ -98,16 +99,16 @@ pub arms-loop-holds : (t : ℕ) → arms-lts.Need-loop-holds (arms-claims t) (ar
 arms-loop-holds t c = (λ p e. arms-begin p (c .before .before .before .before .before .before .before .before .before .before .args .i) (numbers-of (c .before .before .before .before .deeper .result)) (read-block (c .before .before .before .before .before .before .before .before .before .before .args .left)) (c .before .before .before .before .before .before .before .before .before .before .args .w .now) _ _ (omega arith) (omega arith) e, omega arith)
 
 pub arms-mul-arm : (t : ℕ) → arms-lts.Need-mul-arm (arms-claims t) (arms-at t) arms.Post arms-Inv-loop arms-μ-loop
-arms-mul-arm t c = omega (arith, (c .before .loop .inv .0 (numbers-of (c .before .before .before .before .before .before .before .before .before .before .before .before .args .path)) (c .before .before .before .before .before .before .deeper .ensures .numbers)) .inside)
+arms-mul-arm t c = omega (arith, (c .before .loop .inv .0 (numbers-of (c .before .before .before .before .before .before .before .before .before .before .before .before .args .path)) (c .before .before .before .before .before .before .deeper .ensures .numbers)) .loop .inside)
 
 pub arms-sub-arm : (t : ℕ) → arms-lts.Need-sub-arm (arms-claims t) (arms-at t) arms.Post arms-Inv-loop arms-μ-loop
-arms-sub-arm t c = omega (arith, (c .before .loop .inv .0 (numbers-of (c .before .before .before .before .before .before .before .before .before .before .before .before .args .path)) (c .before .before .before .before .before .before .deeper .ensures .numbers)) .inside)
+arms-sub-arm t c = omega (arith, (c .before .loop .inv .0 (numbers-of (c .before .before .before .before .before .before .before .before .before .before .before .before .args .path)) (c .before .before .before .before .before .before .deeper .ensures .numbers)) .loop .inside)
 
 pub arms-part-arm-start : (t : ℕ) → arms-lts.Need-part-arm-start (arms-claims t) (arms-at t) arms.Post arms-Inv-loop arms-μ-loop
-arms-part-arm-start t c = omega (arith, (c .before .loop .inv .0 (numbers-of (c .before .before .before .before .before .before .before .before .before .before .before .before .args .path)) (c .before .before .before .before .before .before .deeper .ensures .numbers)) .inside)
+arms-part-arm-start t c = omega (arith, (c .before .loop .inv .0 (numbers-of (c .before .before .before .before .before .before .before .before .before .before .before .before .args .path)) (c .before .before .before .before .before .before .deeper .ensures .numbers)) .loop .inside)
 
 pub arms-part-arm-end : (t : ℕ) → arms-lts.Need-part-arm-end (arms-claims t) (arms-at t) arms.Post arms-Inv-loop arms-μ-loop
-arms-part-arm-end t c = omega (arith, (c .before .loop .inv .0 (numbers-of (c .before .before .before .before .before .before .before .before .before .before .before .before .args .path)) (c .before .before .before .before .before .before .deeper .ensures .numbers)) .inside)
+arms-part-arm-end t c = omega (arith, (c .before .loop .inv .0 (numbers-of (c .before .before .before .before .before .before .before .before .before .before .before .before .args .path)) (c .before .before .before .before .before .before .deeper .ensures .numbers)) .loop .inside)
 
 pub arms-add-arm : (t : ℕ) → arms-lts.Need-add-arm (arms-claims t) (arms-at t) arms.Post arms-Inv-loop arms-μ-loop
 arms-add-arm t c = omega (arith, c .before .loop-test .taken, c .before .before .before .before .before .before .before .before .shared-slice-known3 .given 2)
@@ -128,7 +129,7 @@ pub arms-returns-2 : (t : ℕ) → arms-lts.Need-returns-2 (arms-claims t) (arms
 arms-returns-2 t c = record { is = arms-fail (numbers-of (c .before .before .before .before .before .before .before .before .before .before .before .before .before .before .before .before .before .before .before .args .path)) (c .before .before .before .before .before .before .before .before .before .before .before .before .before .before .before .before .before .before .before .args .i) (numbers-of (c .before .before .before .before .before .before .before .before .before .before .before .before .before .deeper .result)) (read-block (c .before .before .before .before .before .before .before .before .before .before .before .before .before .before .before .before .before .before .before .args .left)) (c .before .before .before .before .before .before .before .before .loop .inv .0 (numbers-of (c .before .before .before .before .before .before .before .before .before .before .before .before .before .before .before .before .before .before .before .args .path)) (c .before .before .before .before .before .before .before .before .before .before .before .before .before .deeper .ensures .numbers)) (c .before .before .before .before .before .before .before .loop-test .taken) (told-none (tail (read-arm (read-block (c .before .before .before .before .before .before .before .before .before .before .before .before .before .before .before .before .before .before .before .args .left))) (c .before .before .before .before .before .before .before .before .before .before .before .before .before .before .before .before .before .before .before .args .w .now) _ (c .before .before .before .before .arm .ensures)) (c .enum-told .given .1)) }
 
 pub arms-add-from : (t : ℕ) → arms-lts.Need-add-from (arms-claims t) (arms-at t) arms.Post arms-Inv-loop arms-μ-loop
-arms-add-from t c = omega (arith, sum-within (c .before .before .before .before .before .before .before .before .before .before .before .before .before .before .before .before .before .before .before .before .args .w .now) _ _ ((c .before .before .before .before .before .before .before .before .before .loop .inv .0 (numbers-of (c .before .before .before .before .before .before .before .before .before .before .before .before .before .before .before .before .before .before .before .before .args .path)) (c .before .before .before .before .before .before .before .before .before .before .before .before .before .before .deeper .ensures .numbers)) .inside) (told-good (tail (read-arm (read-block (c .before .before .before .before .before .before .before .before .before .before .before .before .before .before .before .before .before .before .before .before .args .left))) (c .before .before .before .before .before .before .before .before .before .before .before .before .before .before .before .before .before .before .before .before .args .w .now) _ (c .before .before .before .before .before .arm .ensures)) (c .before .seen .given .1) .within))
+arms-add-from t c = omega (arith, sum-within (c .before .before .before .before .before .before .before .before .before .before .before .before .before .before .before .before .before .before .before .before .args .w .now) _ _ ((c .before .before .before .before .before .before .before .before .before .loop .inv .0 (numbers-of (c .before .before .before .before .before .before .before .before .before .before .before .before .before .before .before .before .before .before .before .before .args .path)) (c .before .before .before .before .before .before .before .before .before .before .before .before .before .before .deeper .ensures .numbers)) .loop .inside) (told-good (tail (read-arm (read-block (c .before .before .before .before .before .before .before .before .before .before .before .before .before .before .before .before .before .before .before .before .args .left))) (c .before .before .before .before .before .before .before .before .before .before .before .before .before .before .before .before .before .before .before .before .args .w .now) _ (c .before .before .before .before .before .arm .ensures)) (c .before .seen .given .1) .within))
 
 pub arms-add-k : (t : ℕ) → arms-lts.Need-add-k (arms-claims t) (arms-at t) arms.Post arms-Inv-loop arms-μ-loop
 arms-add-k t c = omega (arith, c .before .before .before .before .before .before .before .before .loop-test .taken, c .before .before .before .before .before .before .before .before .before .before .before .before .before .before .before .shared-slice-known3 .given 2)
@@ -143,4 +144,4 @@ pub arms-same-length-2 : (t : ℕ) → arms-lts.Need-same-length-2 (arms-claims 
 arms-same-length-2 t c = search needs
 
 pub arms-returns-3 : (t : ℕ) → arms-lts.Need-returns-3 (arms-claims t) (arms-at t) arms.Post arms-Inv-loop arms-μ-loop
-arms-returns-3 t c = record { is = arms-done (numbers-of (c .before .before .before .before .before .before .before .before .before .before .before .before .args .path)) (c .before .before .before .before .before .before .before .before .before .before .before .before .args .i) (numbers-of (c .before .before .before .before .before .before .deeper .result)) (read-block (c .before .before .before .before .before .before .before .before .before .before .before .before .args .left)) (c .before .before .before .before .put-match .ensures) (c .before .loop .inv .0 (numbers-of (c .before .before .before .before .before .before .before .before .before .before .before .before .args .path)) (c .before .before .before .before .before .before .deeper .ensures .numbers)) (c .loop-test .left) }
+arms-returns-3 t c = record { is = arms-done (numbers-of (c .before .before .before .before .before .before .before .before .before .before .before .before .args .path)) (c .before .before .before .before .before .before .before .before .before .before .before .before .args .i) (numbers-of (c .before .before .before .before .before .before .deeper .result)) (read-block (c .before .before .before .before .before .before .before .before .before .before .before .before .args .left)) (c .before .loop .inv .0 (numbers-of (c .before .before .before .before .before .before .before .before .before .before .before .before .args .path)) (c .before .before .before .before .before .before .deeper .ensures .numbers)) (c .before .before .before .before .put-match .ensures) (c .loop-test .left) }

@@ -4,12 +4,12 @@ use native.Mathlib.Omega.{arith}
 use lib.ListN.{length-drop}
 use borrow.Author.Needs.{needs}
 use Rattle.definition.specs.Read.{read-block, read-counted}
-use Rattle.definition.specs.Listing.{steps-text}
 use Rattle.walk.proofs.Readers.{flow-short, flow-other, pair-order, pair-high, pair-none, block-deep, block-empty, block-long, block-none}
 use Rattle.listing.specs.Writes.{numbers-of}
 use Rattle.listing.proofs.Writing.{room-less}
 use Rattle.listing.proofs.Reading.{tail, told-none, told-good}
-use Rattle.listing.proofs.Parts.{flow-is, pair-good, counted-part, block-left, block-good}
+use Rattle.walk.proofs.Finds.{block-left, block-found}
+use Rattle.listing.proofs.Parts.{flow-is, pair-good, counted-part}
 use borrow.Fn.PlainCycle.{is}
 use Rattle.listing.proofs.block.Reads as block
 use Rattle.listing.proofs.+arm+arms+block+flow+pair+step+steps.Lts-block as block-lts
@@ -68,13 +68,13 @@ pub block-same-length-2 : (t : ℕ) → block-lts.Need-same-length-2 (block-clai
 block-same-length-2 t c = search needs
 
 pub block-returns-5 : (t : ℕ) → block-lts.Need-returns-5 (block-claims t) (block-at t) block.Post
-block-returns-5 t c = record { is = block-left (steps-text (numbers-of (c .before .before .before .before .before .before .before .before .before .before .before .before .before .before .before .before .args .path)) 1) (c .before .before .before .before .before .before .before .before .before .before .before .before .before .before .before .before .args .left) (c .before .before .before .before .before .before .before .before .before .before .before .before .before .before .before .before .args .w .now) _ (c .before .before .before .before .before .before .before .before .before .before .before .before .before .if1 .left) (omega (arith, c .before .before .before .before .before .before .before .before .before .before .wide .ensures)) (λ q. omega (arith, c .before .before .before .before .before .before .before .before .before .before .wide .ensures)) (told-good (counted-part (read-counted (read-block ((c .before .before .before .before .before .before .before .before .before .before .before .before .before .before .before .before .args .left) - 1))) (c .before .before .before .before .before .before .before .before .before .before .before .before .before .before .before .before .args .w .now) (c .before .before .before .before .before .before .before .before .before .before .wide .result) (c .before .before .before .before .before .before .before .before .before .before .wide .ensures) (c .before .before .before .before .before .before .steps .ensures)) (c .before .before .seen .given .1)) }
+block-returns-5 t c = record { is = block-left (c .before .before .before .before .before .before .before .before .before .before .before .before .before .before .before .before .args .left) (c .before .before .before .before .before .before .before .before .before .before .before .before .before .before .before .before .args .w .now) _ (c .before .before .before .before .before .before .before .before .before .before .before .before .before .if1 .left) (omega (arith, c .before .before .before .before .before .before .before .before .before .before .wide .ensures)) (λ q. omega (arith, c .before .before .before .before .before .before .before .before .before .before .wide .ensures)) (told-good (counted-part (read-counted (read-block ((c .before .before .before .before .before .before .before .before .before .before .before .before .before .before .before .before .args .left) - 1))) (c .before .before .before .before .before .before .before .before .before .before .before .before .before .before .before .before .args .w .now) (c .before .before .before .before .before .before .before .before .before .before .wide .result) (c .before .before .before .before .before .before .before .before .before .before .wide .ensures) (c .before .before .before .before .before .before .steps .ensures)) (c .before .before .seen .given .1)) }
 
 pub block-same-length-3 : (t : ℕ) → block-lts.Need-same-length-3 (block-claims t) (block-at t) block.Post
 block-same-length-3 t c = search needs
 
 pub block-returns-6 : (t : ℕ) → block-lts.Need-returns-6 (block-claims t) (block-at t) block.Post
-block-returns-6 t c = record { is = block-good (steps-text (numbers-of (c .before .before .before .before .before .before .before .before .before .before .before .before .before .before .before .before .args .path)) 1) (c .before .before .before .before .before .before .before .before .before .before .before .before .before .before .before .before .args .left) (c .before .before .before .before .before .before .before .before .before .before .before .before .before .before .before .before .args .w .now) _ _ (c .before .before .before .before .before .before .before .before .before .before .before .before .before .if1 .left) (omega (arith, c .before .before .before .before .before .before .before .before .before .before .wide .ensures)) (omega (arith, c .before .before .before .before .before .before .before .before .before .before .wide .ensures)) (omega arith) (told-good (counted-part (read-counted (read-block ((c .before .before .before .before .before .before .before .before .before .before .before .before .before .before .before .before .args .left) - 1))) (c .before .before .before .before .before .before .before .before .before .before .before .before .before .before .before .before .args .w .now) (c .before .before .before .before .before .before .before .before .before .before .wide .result) (c .before .before .before .before .before .before .before .before .before .before .wide .ensures) (c .before .before .before .before .before .before .steps .ensures)) (c .before .before .seen .given .1)) }
+block-returns-6 t c = record { is = block-found (c .before .before .before .before .before .before .before .before .before .before .before .before .before .before .before .before .args .left) (c .before .before .before .before .before .before .before .before .before .before .before .before .before .before .before .before .args .w .now) _ (c .before .before .before .before .before .before .before .before .before .before .before .before .before .if1 .left) (omega (arith, c .before .before .before .before .before .before .before .before .before .before .wide .ensures)) (omega (arith, c .before .before .before .before .before .before .before .before .before .before .wide .ensures)) (omega arith) (told-good (counted-part (read-counted (read-block ((c .before .before .before .before .before .before .before .before .before .before .before .before .before .before .before .before .args .left) - 1))) (c .before .before .before .before .before .before .before .before .before .before .before .before .before .before .before .before .args .w .now) (c .before .before .before .before .before .before .before .before .before .before .wide .result) (c .before .before .before .before .before .before .before .before .before .before .wide .ensures) (c .before .before .before .before .before .before .steps .ensures)) (c .before .before .seen .given .1)) }
 
 pub flow-returns : (t : ℕ) → flow-lts.Need-returns (flow-claims t) (flow-at t) flow.Post
 flow-returns t c = record { is = flow-short (read-block (c .before .before .before .args .left)) (c .before .before .before .args .w .now) (omega arith) }

@@ -9,7 +9,8 @@ use Rattle.walk.proofs.Readers.{sum-within, step-none, steps-empty}
 use Rattle.listing.specs.Writes.{numbers-of}
 use Rattle.listing.proofs.Writing.{room-less}
 use Rattle.listing.proofs.Reading.{tail, told-none, told-good}
-use Rattle.listing.proofs.Parts.{step-stops, step-good}
+use Rattle.walk.proofs.Finds.{step-stops}
+use Rattle.listing.proofs.Parts.{step-good}
 use Rattle.listing.proofs.Turns.{Steps, steps-begin, steps-stop, steps-turn, steps-done}
 use borrow.Fn.PlainCycle.{is}
 use Rattle.listing.proofs.step.Reads as step
@@ -58,7 +59,7 @@ pub step-same-length-2 : (t : ℕ) → step-lts.Need-same-length-2 (step-claims 
 step-same-length-2 t c = search needs
 
 pub step-returns-2 : (t : ℕ) → step-lts.Need-returns-2 (step-claims t) (step-at t) step.Post
-step-returns-2 t c = record { is = step-stops (numbers-of (c .before .before .before .before .before .before .before .before .before .before .before .before .before .before .before .before .args .path)) (read-block (c .before .before .before .before .before .before .before .before .before .before .before .before .before .before .before .before .args .left)) (c .before .before .before .before .before .before .before .before .before .before .before .before .before .before .before .before .args .w .now) (told-good (c .before .before .before .before .before .before .before .before .before .before .before .before .lets .ensures) (c .before .before .before .before .before .before .before .before .seen .given .1)) (told-none (tail (read-tagged (read-block (c .before .before .before .before .before .before .before .before .before .before .before .before .before .before .before .before .args .left))) (c .before .before .before .before .before .before .before .before .before .before .before .before .before .before .before .before .args .w .now) _ (c .before .before .before .before .flow .ensures)) (c .enum-told2 .given .1)) }
+step-returns-2 t c = record { is = step-stops (read-block (c .before .before .before .before .before .before .before .before .before .before .before .before .before .before .before .before .args .left)) (c .before .before .before .before .before .before .before .before .before .before .before .before .before .before .before .before .args .w .now) (told-good (c .before .before .before .before .before .before .before .before .before .before .before .before .lets .ensures) (c .before .before .before .before .before .before .before .before .seen .given .1)) (told-none (tail (read-tagged (read-block (c .before .before .before .before .before .before .before .before .before .before .before .before .before .before .before .before .args .left))) (c .before .before .before .before .before .before .before .before .before .before .before .before .before .before .before .before .args .w .now) _ (c .before .before .before .before .flow .ensures)) (c .enum-told2 .given .1)) }
 
 pub step-add-t15 : (t : ℕ) → step-lts.Need-add-t15 (step-claims t) (step-at t) step.Post
 step-add-t15 t c = omega (arith, sum-within (c .before .before .before .before .before .before .before .before .before .before .before .before .before .before .before .before .before .args .w .now) _ _ ((told-good (c .before .before .before .before .before .before .before .before .before .before .before .before .before .lets .ensures) (c .before .before .before .before .before .before .before .before .before .seen .given .1)) .within) (told-good (tail (read-tagged (read-block (c .before .before .before .before .before .before .before .before .before .before .before .before .before .before .before .before .before .args .left))) (c .before .before .before .before .before .before .before .before .before .before .before .before .before .before .before .before .before .args .w .now) _ (c .before .before .before .before .before .flow .ensures)) (c .before .after .given .1) .within))
@@ -85,16 +86,16 @@ pub steps-loop-holds : (t : ℕ) → steps-lts.Need-loop-holds (steps-claims t) 
 steps-loop-holds t c = (steps-begin (numbers-of (c .before .before .before .before .args .path)) (read-block (c .before .before .before .before .args .left)) (c .before .before .before .before .args .w .now) _ _ (omega arith), omega arith)
 
 pub steps-mul-step : (t : ℕ) → steps-lts.Need-mul-step (steps-claims t) (steps-at t) steps.Post steps-Inv-loop steps-μ-loop
-steps-mul-step t c = omega (arith, (c .before .loop .inv .0) .inside)
+steps-mul-step t c = omega (arith, (c .before .loop .inv .0) .loop .inside)
 
 pub steps-sub-step : (t : ℕ) → steps-lts.Need-sub-step (steps-claims t) (steps-at t) steps.Post steps-Inv-loop steps-μ-loop
-steps-sub-step t c = omega (arith, (c .before .loop .inv .0) .inside)
+steps-sub-step t c = omega (arith, (c .before .loop .inv .0) .loop .inside)
 
 pub steps-part-step-start : (t : ℕ) → steps-lts.Need-part-step-start (steps-claims t) (steps-at t) steps.Post steps-Inv-loop steps-μ-loop
-steps-part-step-start t c = omega (arith, (c .before .loop .inv .0) .inside)
+steps-part-step-start t c = omega (arith, (c .before .loop .inv .0) .loop .inside)
 
 pub steps-part-step-end : (t : ℕ) → steps-lts.Need-part-step-end (steps-claims t) (steps-at t) steps.Post steps-Inv-loop steps-μ-loop
-steps-part-step-end t c = omega (arith, (c .before .loop .inv .0) .inside)
+steps-part-step-end t c = omega (arith, (c .before .loop .inv .0) .loop .inside)
 
 pub steps-add-step : (t : ℕ) → steps-lts.Need-add-step (steps-claims t) (steps-at t) steps.Post steps-Inv-loop steps-μ-loop
 steps-add-step t c = omega (arith, c .before .loop-test .taken, c .before .before .before .shared-slice-known2 .given 0)
@@ -115,7 +116,7 @@ pub steps-returns-2 : (t : ℕ) → steps-lts.Need-returns-2 (steps-claims t) (s
 steps-returns-2 t c = record { is = steps-stop (numbers-of (c .before .before .before .before .before .before .before .before .before .before .before .before .before .args .path)) (read-block (c .before .before .before .before .before .before .before .before .before .before .before .before .before .args .left)) (c .before .before .before .before .before .before .before .before .loop .inv .0) (c .before .before .before .before .before .before .before .loop-test .taken) (told-none (tail (read-step (read-block (c .before .before .before .before .before .before .before .before .before .before .before .before .before .args .left))) (c .before .before .before .before .before .before .before .before .before .before .before .before .before .args .w .now) _ (c .before .before .before .before .step .ensures)) (c .enum-told .given .1)) }
 
 pub steps-add-from : (t : ℕ) → steps-lts.Need-add-from (steps-claims t) (steps-at t) steps.Post steps-Inv-loop steps-μ-loop
-steps-add-from t c = omega (arith, sum-within (c .before .before .before .before .before .before .before .before .before .before .before .before .before .before .args .w .now) _ _ ((c .before .before .before .before .before .before .before .before .before .loop .inv .0) .inside) (told-good (tail (read-step (read-block (c .before .before .before .before .before .before .before .before .before .before .before .before .before .before .args .left))) (c .before .before .before .before .before .before .before .before .before .before .before .before .before .before .args .w .now) _ (c .before .before .before .before .before .step .ensures)) (c .before .seen .given .1) .within))
+steps-add-from t c = omega (arith, sum-within (c .before .before .before .before .before .before .before .before .before .before .before .before .before .before .args .w .now) _ _ ((c .before .before .before .before .before .before .before .before .before .loop .inv .0) .loop .inside) (told-good (tail (read-step (read-block (c .before .before .before .before .before .before .before .before .before .before .before .before .before .before .args .left))) (c .before .before .before .before .before .before .before .before .before .before .before .before .before .before .args .w .now) _ (c .before .before .before .before .before .step .ensures)) (c .before .seen .given .1) .within))
 
 pub steps-add-i : (t : ℕ) → steps-lts.Need-add-i (steps-claims t) (steps-at t) steps.Post steps-Inv-loop steps-μ-loop
 steps-add-i t c = omega (arith, c .before .before .before .before .before .before .before .before .loop-test .taken, c .before .before .before .before .before .before .before .before .before .before .shared-slice-known2 .given 0)

@@ -3,8 +3,6 @@ use Rattle.listing.proofs.Writing.{path-more}
 use borrow.Author.Needs.{needs}
 use Rattle.listing.proofs.line.deeper.Statement.{statement}
 use Rattle.listing.proofs.line.deeper.Tie as tie
-use Rattle.listing.proofs.line.deeper.Reads as reads
-use Rattle.listing.proofs.line.deeper.Lts as lts
 
 -- src/line.rt:32:5
 mul-next : tie.Need-mul-next

@@ -3,8 +3,6 @@ use Rattle.listing.proofs.Writing.{low-magnitude, high-magnitude}
 use borrow.Author.Needs.{needs}
 use Rattle.listing.proofs.line.magnitude.Statement.{statement}
 use Rattle.listing.proofs.line.magnitude.Tie as tie
-use Rattle.listing.proofs.line.magnitude.Reads as reads
-use Rattle.listing.proofs.line.magnitude.Lts as lts
 
 -- src/line.rt:98:9
 returns : tie.Need-returns

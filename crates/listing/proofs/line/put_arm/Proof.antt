@@ -3,11 +3,6 @@ use Rattle.listing.proofs.Writing.{writes-then}
 use borrow.Author.Needs.{needs}
 use Rattle.listing.proofs.line.put_arm.Statement.{statement}
 use Rattle.listing.proofs.line.put_arm.Tie as tie
-use Rattle.listing.proofs.line.put_arm.Reads as reads
-use Rattle.listing.proofs.line.put_arm.Lts as lts
-use Rattle.listing.proofs.line.put_kind.Reads as put-kind-reads
-use Rattle.listing.proofs.line.put_start.Reads as put-start-reads
-use Rattle.listing.proofs.line.put_text.Reads as put-text-reads
 
 -- src/line.rt:235:9
 put-start-requires : tie.Need-put-start-requires

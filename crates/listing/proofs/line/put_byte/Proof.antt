@@ -3,8 +3,6 @@ use Rattle.listing.proofs.Writing.{writes-set, writes-full}
 use borrow.Author.Needs.{needs}
 use Rattle.listing.proofs.line.put_byte.Statement.{statement}
 use Rattle.listing.proofs.line.put_byte.Tie as tie
-use Rattle.listing.proofs.line.put_byte.Reads as reads
-use Rattle.listing.proofs.line.put_byte.Lts as lts
 
 -- src/line.rt:41:9
 slice-write-text : tie.Need-slice-write-text

@@ -4,9 +4,6 @@ use Rattle.listing.proofs.Writing.{spelled-decimal}
 use borrow.Author.Needs.{needs}
 use Rattle.listing.proofs.line.put_decimal.Statement.{statement}
 use Rattle.listing.proofs.line.put_decimal.Tie as tie
-use Rattle.listing.proofs.line.put_decimal.Reads as reads
-use Rattle.listing.proofs.line.put_decimal.Lts as lts
-use Rattle.listing.proofs.line.put_digits.Reads as put-digits-reads
 
 -- src/line.rt:73:5
 put-digits-requires : tie.Need-put-digits-requires

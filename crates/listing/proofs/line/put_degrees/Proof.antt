@@ -3,12 +3,6 @@ use Rattle.listing.proofs.Writing.{writes-then, writes-as, degrees-is}
 use borrow.Author.Needs.{needs}
 use Rattle.listing.proofs.line.put_degrees.Statement.{statement}
 use Rattle.listing.proofs.line.put_degrees.Tie as tie
-use Rattle.listing.proofs.line.put_degrees.Reads as reads
-use Rattle.listing.proofs.line.put_degrees.Lts as lts
-use Rattle.listing.proofs.line.magnitude.Reads as magnitude-reads
-use Rattle.listing.proofs.line.put_byte.Reads as put-byte-reads
-use Rattle.listing.proofs.line.put_decimal.Reads as put-decimal-reads
-use Rattle.listing.proofs.line.put_sign.Reads as put-sign-reads
 
 -- src/line.rt:114:9
 put-sign-requires : tie.Need-put-sign-requires

@@ -3,10 +3,6 @@ use Rattle.listing.proofs.Writing.{writes-then}
 use borrow.Author.Needs.{needs}
 use Rattle.listing.proofs.line.put_field.Statement.{statement}
 use Rattle.listing.proofs.line.put_field.Tie as tie
-use Rattle.listing.proofs.line.put_field.Reads as reads
-use Rattle.listing.proofs.line.put_field.Lts as lts
-use Rattle.listing.proofs.line.put_decimal.Reads as put-decimal-reads
-use Rattle.listing.proofs.line.put_text.Reads as put-text-reads
 
 -- src/line.rt:80:9
 put-text-requires : tie.Need-put-text-requires

@@ -9,9 +9,6 @@ use Rattle.definition.specs.Listing.{text as quoted}
 use Rattle.listing.proofs.Writing.{Each, each-starts, each-turn, indents}
 use Rattle.listing.proofs.line.put_indent.Statement.{statement}
 use Rattle.listing.proofs.line.put_indent.Tie as tie
-use Rattle.listing.proofs.line.put_indent.Reads as reads
-use Rattle.listing.proofs.line.put_indent.Lts as lts
-use Rattle.listing.proofs.line.put_text.Reads as put-text-reads
 
 abbrev Inv-loop : tie.InvT-loop
 Inv-loop depth text₀ at pos₀ k₀ t6 text pos k = ((p : List ℕ) → length p ≡ depth → Each (λ n. quoted "  ") p k text₀ at pos text) × ((k ≤ depth) × (length text ≡ length text₀))

@@ -6,11 +6,6 @@ use Rattle.listing.proofs.Writing.{writes-then, writes-as, prim-is, var
 use borrow.Author.Needs.{needs}
 use Rattle.listing.proofs.line.put_kind.Statement.{statement}
 use Rattle.listing.proofs.line.put_kind.Tie as tie
-use Rattle.listing.proofs.line.put_kind.Reads as reads
-use Rattle.listing.proofs.line.put_kind.Lts as lts
-use Rattle.listing.proofs.line.put_limit.Reads as put-limit-reads
-use Rattle.listing.proofs.line.put_signed.Reads as put-signed-reads
-use Rattle.listing.proofs.line.put_text.Reads as put-text-reads
 
 -- src/line.rt:137:9
 put-limit-requires : tie.Need-put-limit-requires

@@ -4,11 +4,6 @@ use Rattle.listing.proofs.Writing.{writes-then, writes-as, let-is, path
 use borrow.Author.Needs.{needs}
 use Rattle.listing.proofs.line.put_let.Statement.{statement}
 use Rattle.listing.proofs.line.put_let.Tie as tie
-use Rattle.listing.proofs.line.put_let.Reads as reads
-use Rattle.listing.proofs.line.put_let.Lts as lts
-use Rattle.listing.proofs.line.put_byte.Reads as put-byte-reads
-use Rattle.listing.proofs.line.put_field.Reads as put-field-reads
-use Rattle.listing.proofs.line.put_indent.Reads as put-indent-reads
 
 -- src/line.rt:205:9
 put-indent-requires : tie.Need-put-indent-requires

@@ -3,11 +3,6 @@ use Rattle.listing.proofs.Writing.{writes-then, writes-as, limit-is}
 use borrow.Author.Needs.{needs}
 use Rattle.listing.proofs.line.put_limit.Statement.{statement}
 use Rattle.listing.proofs.line.put_limit.Tie as tie
-use Rattle.listing.proofs.line.put_limit.Reads as reads
-use Rattle.listing.proofs.line.put_limit.Lts as lts
-use Rattle.listing.proofs.line.put_degrees.Reads as put-degrees-reads
-use Rattle.listing.proofs.line.put_signed.Reads as put-signed-reads
-use Rattle.listing.proofs.line.put_text.Reads as put-text-reads
 
 -- src/line.rt:125:26
 slice-aggregate-put-text : tie.Need-slice-aggregate-put-text

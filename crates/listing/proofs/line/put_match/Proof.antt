@@ -3,11 +3,6 @@ use Rattle.listing.proofs.Writing.{writes-then, writes-as, match-is}
 use borrow.Author.Needs.{needs}
 use Rattle.listing.proofs.line.put_match.Statement.{statement}
 use Rattle.listing.proofs.line.put_match.Tie as tie
-use Rattle.listing.proofs.line.put_match.Reads as reads
-use Rattle.listing.proofs.line.put_match.Lts as lts
-use Rattle.listing.proofs.line.put_byte.Reads as put-byte-reads
-use Rattle.listing.proofs.line.put_field.Reads as put-field-reads
-use Rattle.listing.proofs.line.put_start.Reads as put-start-reads
 
 -- src/line.rt:216:9
 put-start-requires : tie.Need-put-start-requires

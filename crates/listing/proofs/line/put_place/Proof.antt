@@ -3,10 +3,6 @@ use Rattle.listing.proofs.Writing.{writes-as, place-empty, place-named}
 use borrow.Author.Needs.{needs}
 use Rattle.listing.proofs.line.put_place.Statement.{statement}
 use Rattle.listing.proofs.line.put_place.Tie as tie
-use Rattle.listing.proofs.line.put_place.Reads as reads
-use Rattle.listing.proofs.line.put_place.Lts as lts
-use Rattle.listing.proofs.line.put_field.Reads as put-field-reads
-use Rattle.listing.proofs.line.put_text.Reads as put-text-reads
 
 -- src/line.rt:155:25
 slice-aggregate-put-text : tie.Need-slice-aggregate-put-text

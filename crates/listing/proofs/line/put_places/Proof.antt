@@ -3,9 +3,6 @@ use Rattle.listing.proofs.Writing.{writes-none, writes-as, head-none, h
 use borrow.Author.Needs.{needs}
 use Rattle.listing.proofs.line.put_places.Statement.{statement}
 use Rattle.listing.proofs.line.put_places.Tie as tie
-use Rattle.listing.proofs.line.put_places.Reads as reads
-use Rattle.listing.proofs.line.put_places.Lts as lts
-use Rattle.listing.proofs.line.put_text.Reads as put-text-reads
 
 -- src/line.rt:164:9
 returns : tie.Need-returns

@@ -9,10 +9,6 @@ use Rattle.definition.specs.Listing.{text as quoted, decimal}
 use Rattle.listing.proofs.Writing.{Each, each-starts, each-turn, each-ends, writes-then}
 use Rattle.listing.proofs.line.put_points.Statement.{statement}
 use Rattle.listing.proofs.line.put_points.Tie as tie
-use Rattle.listing.proofs.line.put_points.Reads as reads
-use Rattle.listing.proofs.line.put_points.Lts as lts
-use Rattle.listing.proofs.line.put_byte.Reads as put-byte-reads
-use Rattle.listing.proofs.line.put_decimal.Reads as put-decimal-reads
 
 abbrev Inv-loop : tie.InvT-loop
 Inv-loop text₀ at path depth pos₀ k₀ text pos k = Each (λ n. decimal n ++ quoted ".") (path .numbers) k text₀ at pos text × ((k ≤ depth) × (length text ≡ length text₀))

@@ -3,9 +3,6 @@ use Rattle.listing.proofs.Writing.{writes-none, writes-as, sign-none, s
 use borrow.Author.Needs.{needs}
 use Rattle.listing.proofs.line.put_sign.Statement.{statement}
 use Rattle.listing.proofs.line.put_sign.Tie as tie
-use Rattle.listing.proofs.line.put_sign.Reads as reads
-use Rattle.listing.proofs.line.put_sign.Lts as lts
-use Rattle.listing.proofs.line.put_byte.Reads as put-byte-reads
 
 -- src/line.rt:89:9
 returns : tie.Need-returns

@@ -3,11 +3,6 @@ use Rattle.listing.proofs.Writing.{writes-then, writes-as, signed-is}
 use borrow.Author.Needs.{needs}
 use Rattle.listing.proofs.line.put_signed.Statement.{statement}
 use Rattle.listing.proofs.line.put_signed.Tie as tie
-use Rattle.listing.proofs.line.put_signed.Reads as reads
-use Rattle.listing.proofs.line.put_signed.Lts as lts
-use Rattle.listing.proofs.line.magnitude.Reads as magnitude-reads
-use Rattle.listing.proofs.line.put_decimal.Reads as put-decimal-reads
-use Rattle.listing.proofs.line.put_sign.Reads as put-sign-reads
 
 -- src/line.rt:106:9
 put-sign-requires : tie.Need-put-sign-requires

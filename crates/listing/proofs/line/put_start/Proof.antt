@@ -4,12 +4,6 @@ use Rattle.listing.proofs.Writing.{writes-then, writes-as, start-is, pa
 use borrow.Author.Needs.{needs}
 use Rattle.listing.proofs.line.put_start.Statement.{statement}
 use Rattle.listing.proofs.line.put_start.Tie as tie
-use Rattle.listing.proofs.line.put_start.Reads as reads
-use Rattle.listing.proofs.line.put_start.Lts as lts
-use Rattle.listing.proofs.line.put_byte.Reads as put-byte-reads
-use Rattle.listing.proofs.line.put_decimal.Reads as put-decimal-reads
-use Rattle.listing.proofs.line.put_indent.Reads as put-indent-reads
-use Rattle.listing.proofs.line.put_points.Reads as put-points-reads
 
 -- src/line.rt:194:9
 put-indent-requires : tie.Need-put-indent-requires

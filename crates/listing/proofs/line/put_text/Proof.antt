@@ -8,9 +8,6 @@ use lib.ListN.{length}
 use Rattle.listing.proofs.Writing.{Each, each-starts, each-turn, bytes-end}
 use Rattle.listing.proofs.line.put_text.Statement.{statement}
 use Rattle.listing.proofs.line.put_text.Tie as tie
-use Rattle.listing.proofs.line.put_text.Reads as reads
-use Rattle.listing.proofs.line.put_text.Lts as lts
-use Rattle.listing.proofs.line.put_byte.Reads as put-byte-reads
 
 abbrev Inv-loop : tie.InvT-loop
 Inv-loop source text₀ at pos₀ k₀ text pos k = Each (λ b. b ∷ []) source k text₀ at pos text × ((k ≤ length source) × (length text ≡ length text₀))

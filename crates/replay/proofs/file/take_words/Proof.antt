@@ -1,6 +1,6 @@
+-- `take_words` meets its contract: the buffer has four bytes for every word.
 use Prim.Native.Nat.{_*_}
 use lib.ListN.{length}
--- `take_words` meets its contract: the buffer has four bytes for every word.
 use mathlib.Core.Path.{sym}
 use lib.Seq.{length-take-le}
 use native.Mathlib.Omega.{arith}

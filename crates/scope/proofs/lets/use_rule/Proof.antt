@@ -1,3 +1,4 @@
+-- The loop's invariant: the impure sites below k are used, and no more was listed than was marked; the result is used after them.
 use mathlib.Core.Path.{_≡_, refl, _∙_}
 use Prim.Native.Nat.{suc, _+_, _-_, _≤_}
 use native.Mathlib.Omega.{arith}
@@ -10,7 +11,6 @@ use Rattle.theorems.specs.LetLists.{low}
 use Rattle.scope.specs.Drawn.{Drawn}
 use Rattle.scope.proofs.Drawings.{sites-only, sites-drawn}
 use Rattle.scope.proofs.Uses.{placed-fits, placed-few, placed-site, placed-then, placed-uses, Turning, turning-starts, turning-turn, turning-ends, low-few}
--- The loop's invariant: the impure sites below k are used, and no more was listed than was marked; the result is used after them.
 use Rattle.scope.proofs.lets.use_rule.Statement.{statement}
 use Rattle.scope.proofs.lets.use_rule.Tie as tie
 

@@ -4,8 +4,9 @@ use native.Mathlib.Omega.{arith}
 use Rattle.definition.specs.Read.{read-block, read-arm}
 use Rattle.walk.proofs.Readers.{sum-within, arm-none}
 use Rattle.walk.specs.Ends.{reading}
-use Rattle.walk.proofs.Parts.{arm-stops, arm-good}
-use Rattle.walk.proofs.Turns.{ArmsAt, arms-bad, arms-begin, arms-fail, arms-turn, arms-done}
+use Rattle.walk.proofs.Finds.{arm-stops, match-bad}
+use Rattle.walk.proofs.Parts.{arm-good}
+use Rattle.walk.proofs.Turns.{ArmsAt, arms-begin, arms-fail, arms-turn, arms-done}
 use Prim.Native.Nat.{ℕ, _-_}
 use borrow.Author.Needs.{needs}
 use borrow.Fn.PlainCycle.{is}
@@ -49,7 +50,7 @@ pub arm-enum-told-2 : (t : ℕ) → arm-lts.Need-enum-told-2 (arm-claims t) (arm
 arm-enum-told-2 t c = search needs
 
 pub arm-returns-2 : (t : ℕ) → arm-lts.Need-returns-2 (arm-claims t) (arm-at t) arm.Post
-arm-returns-2 t c = record { is = arm-stops (read-block (c .before .before .before .before .before .before .before .before .before .before .before .args .left)) (c .before .before .before .before .before .before .before .before .before .before .before .args .w .now) _ _ _ (told-good (c .before .before .before .before .before .before .before .pattern .ensures) (c .before .before .before .before .before .seen .given .1)) (told-none (tail (read-block (c .before .before .before .before .before .before .before .before .before .before .before .args .left)) (c .before .before .before .before .before .before .before .before .before .before .before .args .w .now) _ (c .before .before .block .ensures)) (c .enum-told2 .given .1)) }
+arm-returns-2 t c = record { is = arm-stops (read-block (c .before .before .before .before .before .before .before .before .before .before .before .args .left)) (c .before .before .before .before .before .before .before .before .before .before .before .args .w .now) (told-good (c .before .before .before .before .before .before .before .pattern .ensures) (c .before .before .before .before .before .seen .given .1)) (told-none (tail (read-block (c .before .before .before .before .before .before .before .before .before .before .before .args .left)) (c .before .before .before .before .before .before .before .before .before .before .before .args .w .now) _ (c .before .before .block .ensures)) (c .enum-told2 .given .1)) }
 
 pub arm-add-t13 : (t : ℕ) → arm-lts.Need-add-t13 (arm-claims t) (arm-at t) arm.Post
 arm-add-t13 t c = omega (arith, sum-within (c .before .before .before .before .before .before .before .before .before .before .before .before .args .w .now) _ _ ((told-good (c .before .before .before .before .before .before .before .before .pattern .ensures) (c .before .before .before .before .before .before .seen .given .1)) .within) (told-good (tail (read-block (c .before .before .before .before .before .before .before .before .before .before .before .before .args .left)) (c .before .before .before .before .before .before .before .before .before .before .before .before .args .w .now) _ (c .before .before .before .block .ensures)) (c .before .inner .given .1) .within))
@@ -70,7 +71,7 @@ pub arms-shared-slice-read-s : (t : ℕ) → arms-lts.Need-shared-slice-read-s (
 arms-shared-slice-read-s t c = search needs
 
 pub arms-returns : (t : ℕ) → arms-lts.Need-returns (arms-claims t) (arms-at t) arms.Post arms-Inv-loop arms-μ-loop
-arms-returns t c = record { is = arms-bad (reading (c .before .before .before .before .before .args .kinds .now) (c .before .before .before .before .before .args .numbers .now) (c .before .before .before .before .before .args .identities .now)) (read-block (c .before .before .before .before .before .args .left)) (c .before .before .before .before .before .args .w .now) (omega arith) (omega arith) }
+arms-returns t c = record { is = match-bad (read-block (c .before .before .before .before .before .args .left)) (c .before .before .before .before .before .args .w .now) (omega arith) (omega arith) }
 
 pub arms-shared-slice-read-n : (t : ℕ) → arms-lts.Need-shared-slice-read-n (arms-claims t) (arms-at t) arms.Post arms-Inv-loop arms-μ-loop
 arms-shared-slice-read-n t c = search needs
@@ -82,31 +83,31 @@ pub arms-loop-holds : (t : ℕ) → arms-lts.Need-loop-holds (arms-claims t) (ar
 arms-loop-holds t c = arms-begin (reading (c .before .before .before .before .before .before .args .kinds .now) (c .before .before .before .before .before .before .args .numbers .now) (c .before .before .before .before .before .before .args .identities .now)) (read-block (c .before .before .before .before .before .before .args .left)) (c .before .before .before .before .before .before .args .w .now) (omega arith) (omega arith)
 
 pub arms-mul-fits : (t : ℕ) → arms-lts.Need-mul-fits (arms-claims t) (arms-at t) arms.Post arms-Inv-loop arms-μ-loop
-arms-mul-fits t c = omega (arith, (c .before .loop .inv) .inside)
+arms-mul-fits t c = omega (arith, (c .before .loop .inv) .loop .inside)
 
 pub arms-sub-fits : (t : ℕ) → arms-lts.Need-sub-fits (arms-claims t) (arms-at t) arms.Post arms-Inv-loop arms-μ-loop
-arms-sub-fits t c = omega (arith, (c .before .loop .inv) .inside)
+arms-sub-fits t c = omega (arith, (c .before .loop .inv) .loop .inside)
 
 pub arms-part-fits-start : (t : ℕ) → arms-lts.Need-part-fits-start (arms-claims t) (arms-at t) arms.Post arms-Inv-loop arms-μ-loop
-arms-part-fits-start t c = omega (arith, (c .before .loop .inv) .inside)
+arms-part-fits-start t c = omega (arith, (c .before .loop .inv) .loop .inside)
 
 pub arms-part-fits-end : (t : ℕ) → arms-lts.Need-part-fits-end (arms-claims t) (arms-at t) arms.Post arms-Inv-loop arms-μ-loop
-arms-part-fits-end t c = omega (arith, (c .before .loop .inv) .inside)
+arms-part-fits-end t c = omega (arith, (c .before .loop .inv) .loop .inside)
 
 pub arms-fits-requires : (t : ℕ) → arms-lts.Need-fits-requires (arms-claims t) (arms-at t) arms.Post arms-Inv-loop arms-μ-loop
 arms-fits-requires t c κs = search needs
 
 pub arms-mul-arm : (t : ℕ) → arms-lts.Need-mul-arm (arms-claims t) (arms-at t) arms.Post arms-Inv-loop arms-μ-loop
-arms-mul-arm t c = omega (arith, (c .before .before .before .loop .inv) .inside)
+arms-mul-arm t c = omega (arith, (c .before .before .before .loop .inv) .loop .inside)
 
 pub arms-sub-arm : (t : ℕ) → arms-lts.Need-sub-arm (arms-claims t) (arms-at t) arms.Post arms-Inv-loop arms-μ-loop
-arms-sub-arm t c = omega (arith, (c .before .before .before .loop .inv) .inside)
+arms-sub-arm t c = omega (arith, (c .before .before .before .loop .inv) .loop .inside)
 
 pub arms-part-arm-start : (t : ℕ) → arms-lts.Need-part-arm-start (arms-claims t) (arms-at t) arms.Post arms-Inv-loop arms-μ-loop
-arms-part-arm-start t c = omega (arith, (c .before .before .before .loop .inv) .inside)
+arms-part-arm-start t c = omega (arith, (c .before .before .before .loop .inv) .loop .inside)
 
 pub arms-part-arm-end : (t : ℕ) → arms-lts.Need-part-arm-end (arms-claims t) (arms-at t) arms.Post arms-Inv-loop arms-μ-loop
-arms-part-arm-end t c = omega (arith, (c .before .before .before .loop .inv) .inside)
+arms-part-arm-end t c = omega (arith, (c .before .before .before .loop .inv) .loop .inside)
 
 pub arms-arm-requires : (t : ℕ) → arms-lts.Need-arm-requires (arms-claims t) (arms-at t) arms.Post arms-Inv-loop arms-μ-loop
 arms-arm-requires t c κs = (omega (arith, c .before .before .before .before .before .before .before .before .before .before .before .pre .0), tt)
@@ -121,7 +122,7 @@ pub arms-returns-2 : (t : ℕ) → arms-lts.Need-returns-2 (arms-claims t) (arms
 arms-returns-2 t c = record { is = arms-fail (reading (c .before .before .before .before .before .before .before .before .before .before .before .before .before .before .args .kinds .now) (c .before .before .before .before .before .before .before .before .before .before .before .before .before .before .args .numbers .now) (c .before .before .before .before .before .before .before .before .before .before .before .before .before .before .args .identities .now)) (read-block (c .before .before .before .before .before .before .before .before .before .before .before .before .before .before .args .left)) (c .before .before .before .before .before .before .before .loop .inv) (c .before .before .before .before .before .before .loop-test .taken) (told-none (tail (read-arm (read-block (c .before .before .before .before .before .before .before .before .before .before .before .before .before .before .args .left))) (c .before .before .before .before .before .before .before .before .before .before .before .before .before .before .args .w .now) _ (c .before .before .arm .ensures)) (c .enum-told .given .1)) }
 
 pub arms-add-at : (t : ℕ) → arms-lts.Need-add-at (arms-claims t) (arms-at t) arms.Post arms-Inv-loop arms-μ-loop
-arms-add-at t c = omega (arith, sum-within (c .before .before .before .before .before .before .before .before .before .before .before .before .before .before .before .args .w .now) _ _ ((c .before .before .before .before .before .before .before .before .loop .inv) .inside) ((told-good (tail (read-arm (read-block (c .before .before .before .before .before .before .before .before .before .before .before .before .before .before .before .args .left))) (c .before .before .before .before .before .before .before .before .before .before .before .before .before .before .before .args .w .now) _ (c .before .before .before .arm .ensures)) (c .before .seen .given .1)) .within))
+arms-add-at t c = omega (arith, sum-within (c .before .before .before .before .before .before .before .before .before .before .before .before .before .before .before .args .w .now) _ _ ((c .before .before .before .before .before .before .before .before .loop .inv) .loop .inside) ((told-good (tail (read-arm (read-block (c .before .before .before .before .before .before .before .before .before .before .before .before .before .before .before .args .left))) (c .before .before .before .before .before .before .before .before .before .before .before .before .before .before .before .args .w .now) _ (c .before .before .before .arm .ensures)) (c .before .seen .given .1)) .within))
 
 pub arms-greater-requires : (t : ℕ) → arms-lts.Need-greater-requires (arms-claims t) (arms-at t) arms.Post arms-Inv-loop arms-μ-loop
 arms-greater-requires t c κs = search needs

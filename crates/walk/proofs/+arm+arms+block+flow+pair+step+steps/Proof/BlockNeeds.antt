@@ -7,7 +7,8 @@ use Rattle.definition.specs.Read.{read-block, read-counted}
 use Rattle.definition.specs.Walk.{sites-in, walk}
 use Rattle.walk.proofs.Readers.{flow-short, flow-other, pair-order, pair-high, pair-none, block-deep, block-empty, block-long, block-none}
 use Rattle.walk.specs.Ends.{Ends, reading}
-use Rattle.walk.proofs.Parts.{flow-is, pair-good, inner-part, block-left, block-good}
+use Rattle.walk.proofs.Finds.{inner-part, block-left, block-found}
+use Rattle.walk.proofs.Parts.{flow-is, pair-good}
 use Prim.Native.Nat.{ℕ, _-_}
 use borrow.Author.Needs.{needs}
 use borrow.Fn.PlainCycle.{is}
@@ -62,10 +63,10 @@ pub block-returns-4 : (t : ℕ) → block-lts.Need-returns-4 (block-claims t) (b
 block-returns-4 t c = record { is = block-none (c .before .before .before .before .before .before .before .before .before .before .before .before .args .left) (c .before .before .before .before .before .before .before .before .before .before .before .before .args .w .now) (c .before .before .before .before .before .before .before .before .if1 .left) (omega arith) (told-none (subst (λ v. Ends sites-in (walk (reading (c .before .before .before .before .before .before .before .before .before .before .before .before .args .kinds .now) (c .before .before .before .before .before .before .before .before .before .before .before .before .args .numbers .now) (c .before .before .before .before .before .before .before .before .before .before .before .before .args .identities .now))) ((read-counted (read-block ((c .before .before .before .before .before .before .before .before .before .before .before .before .args .left) - 1))) v) v (c .before .before .steps .result)) (inner-part (c .before .before .before .before .before .before .before .before .before .before .before .before .args .w .now) (c .before .before .before .before .before .wide .result) (c .before .before .before .before .before .wide .ensures)) (c .before .before .steps .ensures)) (c .enum-told .given .1)) }
 
 pub block-returns-5 : (t : ℕ) → block-lts.Need-returns-5 (block-claims t) (block-at t) block.Post
-block-returns-5 t c = record { is = block-left (reading (c .before .before .before .before .before .before .before .before .before .before .before .before .before .before .args .kinds .now) (c .before .before .before .before .before .before .before .before .before .before .before .before .before .before .args .numbers .now) (c .before .before .before .before .before .before .before .before .before .before .before .before .before .before .args .identities .now)) (c .before .before .before .before .before .before .before .before .before .before .before .before .before .before .args .left) (c .before .before .before .before .before .before .before .before .before .before .before .before .before .before .args .w .now) _ _ _ (c .before .before .before .before .before .before .before .before .before .before .if1 .left) (omega (arith, c .before .before .before .before .before .before .before .wide .ensures)) (λ q. omega (arith, c .before .before .before .before .before .before .before .wide .ensures)) (told-good (subst (λ v. Ends sites-in (walk (reading (c .before .before .before .before .before .before .before .before .before .before .before .before .before .before .args .kinds .now) (c .before .before .before .before .before .before .before .before .before .before .before .before .before .before .args .numbers .now) (c .before .before .before .before .before .before .before .before .before .before .before .before .before .before .args .identities .now))) ((read-counted (read-block ((c .before .before .before .before .before .before .before .before .before .before .before .before .before .before .args .left) - 1))) v) v (c .before .before .before .before .steps .result)) (inner-part (c .before .before .before .before .before .before .before .before .before .before .before .before .before .before .args .w .now) (c .before .before .before .before .before .before .before .wide .result) (c .before .before .before .before .before .before .before .wide .ensures)) (c .before .before .before .before .steps .ensures)) (c .before .before .seen .given .1)) }
+block-returns-5 t c = record { is = block-left (c .before .before .before .before .before .before .before .before .before .before .before .before .before .before .args .left) (c .before .before .before .before .before .before .before .before .before .before .before .before .before .before .args .w .now) _ (c .before .before .before .before .before .before .before .before .before .before .if1 .left) (omega (arith, c .before .before .before .before .before .before .before .wide .ensures)) (λ q. omega (arith, c .before .before .before .before .before .before .before .wide .ensures)) (told-good (subst (λ v. Ends sites-in (walk (reading (c .before .before .before .before .before .before .before .before .before .before .before .before .before .before .args .kinds .now) (c .before .before .before .before .before .before .before .before .before .before .before .before .before .before .args .numbers .now) (c .before .before .before .before .before .before .before .before .before .before .before .before .before .before .args .identities .now))) ((read-counted (read-block ((c .before .before .before .before .before .before .before .before .before .before .before .before .before .before .args .left) - 1))) v) v (c .before .before .before .before .steps .result)) (inner-part (c .before .before .before .before .before .before .before .before .before .before .before .before .before .before .args .w .now) (c .before .before .before .before .before .before .before .wide .result) (c .before .before .before .before .before .before .before .wide .ensures)) (c .before .before .before .before .steps .ensures)) (c .before .before .seen .given .1)) }
 
 pub block-returns-6 : (t : ℕ) → block-lts.Need-returns-6 (block-claims t) (block-at t) block.Post
-block-returns-6 t c = record { is = block-good (reading (c .before .before .before .before .before .before .before .before .before .before .before .before .before .before .args .kinds .now) (c .before .before .before .before .before .before .before .before .before .before .before .before .before .before .args .numbers .now) (c .before .before .before .before .before .before .before .before .before .before .before .before .before .before .args .identities .now)) (c .before .before .before .before .before .before .before .before .before .before .before .before .before .before .args .left) (c .before .before .before .before .before .before .before .before .before .before .before .before .before .before .args .w .now) _ _ _ _ (c .before .before .before .before .before .before .before .before .before .before .if1 .left) (omega (arith, c .before .before .before .before .before .before .before .wide .ensures)) (omega (arith, c .before .before .before .before .before .before .before .wide .ensures)) (omega arith) (told-good (subst (λ v. Ends sites-in (walk (reading (c .before .before .before .before .before .before .before .before .before .before .before .before .before .before .args .kinds .now) (c .before .before .before .before .before .before .before .before .before .before .before .before .before .before .args .numbers .now) (c .before .before .before .before .before .before .before .before .before .before .before .before .before .before .args .identities .now))) ((read-counted (read-block ((c .before .before .before .before .before .before .before .before .before .before .before .before .before .before .args .left) - 1))) v) v (c .before .before .before .before .steps .result)) (inner-part (c .before .before .before .before .before .before .before .before .before .before .before .before .before .before .args .w .now) (c .before .before .before .before .before .before .before .wide .result) (c .before .before .before .before .before .before .before .wide .ensures)) (c .before .before .before .before .steps .ensures)) (c .before .before .seen .given .1)) }
+block-returns-6 t c = record { is = block-found (c .before .before .before .before .before .before .before .before .before .before .before .before .before .before .args .left) (c .before .before .before .before .before .before .before .before .before .before .before .before .before .before .args .w .now) _ (c .before .before .before .before .before .before .before .before .before .before .if1 .left) (omega (arith, c .before .before .before .before .before .before .before .wide .ensures)) (omega (arith, c .before .before .before .before .before .before .before .wide .ensures)) (omega arith) (told-good (subst (λ v. Ends sites-in (walk (reading (c .before .before .before .before .before .before .before .before .before .before .before .before .before .before .args .kinds .now) (c .before .before .before .before .before .before .before .before .before .before .before .before .before .before .args .numbers .now) (c .before .before .before .before .before .before .before .before .before .before .before .before .before .before .args .identities .now))) ((read-counted (read-block ((c .before .before .before .before .before .before .before .before .before .before .before .before .before .before .args .left) - 1))) v) v (c .before .before .before .before .steps .result)) (inner-part (c .before .before .before .before .before .before .before .before .before .before .before .before .before .before .args .w .now) (c .before .before .before .before .before .before .before .wide .result) (c .before .before .before .before .before .before .before .wide .ensures)) (c .before .before .before .before .steps .ensures)) (c .before .before .seen .given .1)) }
 
 pub flow-returns : (t : ℕ) → flow-lts.Need-returns (flow-claims t) (flow-at t) flow.Post
 flow-returns t c = record { is = flow-short (read-block (c .before .before .before .before .args .left)) (c .before .before .before .before .args .w .now) (omega arith) }

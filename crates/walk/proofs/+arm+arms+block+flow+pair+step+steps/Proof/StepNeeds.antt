@@ -4,7 +4,8 @@ use native.Mathlib.Omega.{arith}
 use Rattle.definition.specs.Read.{read-block, read-tagged, read-step}
 use Rattle.walk.proofs.Readers.{sum-within, step-none, steps-empty}
 use Rattle.walk.specs.Ends.{reading}
-use Rattle.walk.proofs.Parts.{step-stops, step-good}
+use Rattle.walk.proofs.Finds.{step-stops}
+use Rattle.walk.proofs.Parts.{step-good}
 use Rattle.walk.proofs.Turns.{Steps, steps-begin, steps-stop, steps-turn, steps-done}
 use Prim.Native.Nat.{ℕ, _-_}
 use borrow.Author.Needs.{needs}
@@ -49,7 +50,7 @@ pub step-enum-told-2 : (t : ℕ) → step-lts.Need-enum-told-2 (step-claims t) (
 step-enum-told-2 t c = search needs
 
 pub step-returns-2 : (t : ℕ) → step-lts.Need-returns-2 (step-claims t) (step-at t) step.Post
-step-returns-2 t c = record { is = step-stops (read-block (c .before .before .before .before .before .before .before .before .before .before .before .args .left)) (c .before .before .before .before .before .before .before .before .before .before .before .args .w .now) _ _ _ (told-good (c .before .before .before .before .before .before .before .lets .ensures) (c .before .before .before .before .before .seen .given .1)) (told-none (tail (read-tagged (read-block (c .before .before .before .before .before .before .before .before .before .before .before .args .left))) (c .before .before .before .before .before .before .before .before .before .before .before .args .w .now) _ (c .before .before .flow .ensures)) (c .enum-told2 .given .1)) }
+step-returns-2 t c = record { is = step-stops (read-block (c .before .before .before .before .before .before .before .before .before .before .before .args .left)) (c .before .before .before .before .before .before .before .before .before .before .before .args .w .now) (told-good (c .before .before .before .before .before .before .before .lets .ensures) (c .before .before .before .before .before .seen .given .1)) (told-none (tail (read-tagged (read-block (c .before .before .before .before .before .before .before .before .before .before .before .args .left))) (c .before .before .before .before .before .before .before .before .before .before .before .args .w .now) _ (c .before .before .flow .ensures)) (c .enum-told2 .given .1)) }
 
 pub step-add-t13 : (t : ℕ) → step-lts.Need-add-t13 (step-claims t) (step-at t) step.Post
 step-add-t13 t c = omega (arith, sum-within (c .before .before .before .before .before .before .before .before .before .before .before .before .args .w .now) _ _ ((told-good (c .before .before .before .before .before .before .before .before .lets .ensures) (c .before .before .before .before .before .before .seen .given .1)) .within) (told-good (tail (read-tagged (read-block (c .before .before .before .before .before .before .before .before .before .before .before .before .args .left))) (c .before .before .before .before .before .before .before .before .before .before .before .before .args .w .now) _ (c .before .before .before .flow .ensures)) (c .before .after .given .1) .within))
@@ -76,16 +77,16 @@ pub steps-loop-holds : (t : ℕ) → steps-lts.Need-loop-holds (steps-claims t) 
 steps-loop-holds t c = steps-begin (reading (c .before .before .before .before .before .args .kinds .now) (c .before .before .before .before .before .args .numbers .now) (c .before .before .before .before .before .args .identities .now)) (read-block (c .before .before .before .before .before .args .left)) (c .before .before .before .before .before .args .w .now) (omega arith)
 
 pub steps-mul-step : (t : ℕ) → steps-lts.Need-mul-step (steps-claims t) (steps-at t) steps.Post steps-Inv-loop steps-μ-loop
-steps-mul-step t c = omega (arith, (c .before .loop .inv) .inside)
+steps-mul-step t c = omega (arith, (c .before .loop .inv) .loop .inside)
 
 pub steps-sub-step : (t : ℕ) → steps-lts.Need-sub-step (steps-claims t) (steps-at t) steps.Post steps-Inv-loop steps-μ-loop
-steps-sub-step t c = omega (arith, (c .before .loop .inv) .inside)
+steps-sub-step t c = omega (arith, (c .before .loop .inv) .loop .inside)
 
 pub steps-part-step-start : (t : ℕ) → steps-lts.Need-part-step-start (steps-claims t) (steps-at t) steps.Post steps-Inv-loop steps-μ-loop
-steps-part-step-start t c = omega (arith, (c .before .loop .inv) .inside)
+steps-part-step-start t c = omega (arith, (c .before .loop .inv) .loop .inside)
 
 pub steps-part-step-end : (t : ℕ) → steps-lts.Need-part-step-end (steps-claims t) (steps-at t) steps.Post steps-Inv-loop steps-μ-loop
-steps-part-step-end t c = omega (arith, (c .before .loop .inv) .inside)
+steps-part-step-end t c = omega (arith, (c .before .loop .inv) .loop .inside)
 
 pub steps-step-requires : (t : ℕ) → steps-lts.Need-step-requires (steps-claims t) (steps-at t) steps.Post steps-Inv-loop steps-μ-loop
 steps-step-requires t c κs = (omega (arith, c .before .before .before .before .before .before .before .before .pre .0), tt)
@@ -100,7 +101,7 @@ pub steps-returns-2 : (t : ℕ) → steps-lts.Need-returns-2 (steps-claims t) (s
 steps-returns-2 t c = record { is = steps-stop (reading (c .before .before .before .before .before .before .before .before .before .before .before .args .kinds .now) (c .before .before .before .before .before .before .before .before .before .before .before .args .numbers .now) (c .before .before .before .before .before .before .before .before .before .before .before .args .identities .now)) (read-block (c .before .before .before .before .before .before .before .before .before .before .before .args .left)) (c .before .before .before .before .before .loop .inv) (c .before .before .before .before .loop-test .taken) (told-none (tail (read-step (read-block (c .before .before .before .before .before .before .before .before .before .before .before .args .left))) (c .before .before .before .before .before .before .before .before .before .before .before .args .w .now) _ (c .before .before .step .ensures)) (c .enum-told .given .1)) }
 
 pub steps-add-at : (t : ℕ) → steps-lts.Need-add-at (steps-claims t) (steps-at t) steps.Post steps-Inv-loop steps-μ-loop
-steps-add-at t c = omega (arith, sum-within (c .before .before .before .before .before .before .before .before .before .before .before .before .args .w .now) _ _ ((c .before .before .before .before .before .before .loop .inv) .inside) ((told-good (tail (read-step (read-block (c .before .before .before .before .before .before .before .before .before .before .before .before .args .left))) (c .before .before .before .before .before .before .before .before .before .before .before .before .args .w .now) _ (c .before .before .before .step .ensures)) (c .before .seen .given .1)) .within))
+steps-add-at t c = omega (arith, sum-within (c .before .before .before .before .before .before .before .before .before .before .before .before .args .w .now) _ _ ((c .before .before .before .before .before .before .loop .inv) .loop .inside) ((told-good (tail (read-step (read-block (c .before .before .before .before .before .before .before .before .before .before .before .before .args .left))) (c .before .before .before .before .before .before .before .before .before .before .before .before .args .w .now) _ (c .before .before .before .step .ensures)) (c .before .seen .given .1)) .within))
 
 pub steps-greater-requires : (t : ℕ) → steps-lts.Need-greater-requires (steps-claims t) (steps-at t) steps.Post steps-Inv-loop steps-μ-loop
 steps-greater-requires t c κs = search needs
