@@ -1,4 +1,3 @@
 -- Laws that the proofs of `book` share.
-mod Framing
 mod Recording
 mod Replies

@@ -1,6 +1,4 @@
 // A book on the line, read into word tables or refused (document 01, "The book" and "Refusal numbers").
-mod blocks;
-mod fields;
 mod records;
 
 ghost use mathlib.Core.Path.{_≡_};
@@ -12,7 +10,8 @@ ghost use Rattle.definition.specs.Book.{most, slots};
 ghost use Rattle.definition.specs.Tables.{site-words, rule-words};
 ghost use Rattle.definition.specs.Accept.{lowest};
 ghost use Rattle.definition.specs.Bytes.{site-gaps, rule-gaps, sites-pass, rules-pass};
-ghost use Rattle.book.specs.Shapes.{blocks-in, record-tests, Sizes};
+ghost use Rattle.frames.specs.Shapes.{blocks-in, Sizes};
+ghost use Rattle.book.specs.Shapes.{record-tests};
 ghost use Rattle.book.specs.Reply.{Judged, Decoded};
 
 // Refusal 4 is not given.
@@ -100,12 +99,12 @@ pub enum Contents {
 pub fn read(book: &[u8], sites: &mut [u32; 1512], rules: &mut [u32; 8568]) -> Contents
     ensures { λ r. ⌜ Decoded (now (book .entry)) r (now (sites .exit)) (now (rules .exit)) ⌝ }
 {
-    let early = blocks::blocks_refusal(book);
+    let early = frames::blocks_refusal(book);
     if early != 0 {
         return Contents::Refused(early);
     }
-    let s = tables::wide(fields::read16(book, 4));
-    let r = tables::wide(fields::read16(book, 6));
+    let s = tables::wide(frames::fields::read16(book, 4));
+    let r = tables::wide(frames::fields::read16(book, 6));
     let late = fill(book, s, r, sites, rules);
     if late != 0 {
         return Contents::Refused(late);

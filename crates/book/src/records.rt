@@ -1,8 +1,8 @@
 // The records of a book as words, a word a field, and the bytes of a record that no word holds.
-use crate::fields::read8;
-use crate::fields::read16;
-use crate::fields::read32;
-use crate::fields::zero_bytes;
+use frames::fields::read8;
+use frames::fields::read16;
+use frames::fields::read32;
+use frames::fields::zero_bytes;
 ghost use mathlib.Core.Path.{_≡_};
 ghost use mathlib.Core.List.{[], _∷_, map};
 ghost use Prim.Native.Nat.{_+_, _*_, _/_, _≤_};
@@ -12,7 +12,8 @@ ghost use Rattle.definition.specs.Lists.{upto, flat};
 ghost use Rattle.definition.specs.Book.{most, slots};
 ghost use Rattle.definition.specs.Tables.{site-words, rule-words};
 ghost use Rattle.definition.specs.Bytes.{site-fields, constraint-fields, id-field, rule-fields, site-table, rule-table, site-gaps, rule-gaps};
-ghost use Rattle.book.specs.Shapes.{blocks-in, record-gap};
+ghost use Rattle.frames.specs.Shapes.{blocks-in};
+ghost use Rattle.book.specs.Shapes.{record-gap};
 
 const BLOCK_BYTES: usize = 512;
 

@@ -2,7 +2,7 @@
 use mathlib.Core.Path.{_∙_}
 use native.Mathlib.Omega.{arith}
 use borrow.Author.Needs.{needs}
-use Rattle.book.proofs.Framing.{at-least-one, sizes}
+use Rattle.frames.proofs.Framing.{at-least-one, sizes}
 use Rattle.book.proofs.Replies.{passed-early, early-refused, late-refused, late-tables}
 use Rattle.book.proofs.read.Statement.{statement}
 use Rattle.book.proofs.read.Tie as tie

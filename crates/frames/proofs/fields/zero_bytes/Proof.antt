@@ -7,8 +7,8 @@ use borrow.Author.Needs.{needs}
 use borrow.Author.Tests.{eq-eqb, ne-eqb}
 use Rattle.definition.specs.Tables.{is-zero, zero-from}
 use Rattle.laws.specs.Turns.{from-one, from-stop}
-use Rattle.book.proofs.fields.zero_bytes.Statement.{statement}
-use Rattle.book.proofs.fields.zero_bytes.Tie as tie
+use Rattle.frames.proofs.fields.zero_bytes.Statement.{statement}
+use Rattle.frames.proofs.fields.zero_bytes.Tie as tie
 
 abbrev Inv-loop : tie.InvT-loop
 Inv-loop book at n k₀ k = (k ≤ n) × (zero-from book at k ≡ true)

@@ -1,11 +1,11 @@
 -- A head, then site blocks, then rule blocks.
 use mathlib.Core.Path.{sym, ap, _∙_}
 use borrow.Author.Needs.{needs}
-use Rattle.book.proofs.Framing.{frame-head, frame-sites, frame-rules}
+use Rattle.frames.proofs.Framing.{frame-head, frame-sites, frame-rules}
 use Rattle.definition.specs.Book.{slots}
 use Rattle.definition.specs.Bytes.{framed, frame-ok}
-use Rattle.book.proofs.blocks.frame_ok.Statement.{statement}
-use Rattle.book.proofs.blocks.frame_ok.Tie as tie
+use Rattle.frames.proofs.frame_ok.Statement.{statement}
+use Rattle.frames.proofs.frame_ok.Tie as tie
 
 add-site-blocks : tie.Need-add-site-blocks
 add-site-blocks c = search needs

@@ -5,8 +5,8 @@ use native.Mathlib.Omega.{arith}
 use native.Mathlib.Numerals.{add-one}
 use borrow.Author.Needs.{needs}
 use Rattle.definition.specs.Bytes.{edition-1, sum-of}
-use Rattle.book.proofs.blocks.block_sum.Statement.{statement}
-use Rattle.book.proofs.blocks.block_sum.Tie as tie
+use Rattle.frames.proofs.block_sum.Statement.{statement}
+use Rattle.frames.proofs.block_sum.Tie as tie
 
 abbrev Inv-loop : tie.InvT-loop
 Inv-loop book at sum₀ k₀ sum k = (k ≤ 128) × (sum ≡ sum-of (edition-1 .weight) book at k)

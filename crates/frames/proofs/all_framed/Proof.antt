@@ -9,8 +9,8 @@ use Rattle.definition.specs.Book.{slots}
 use Rattle.definition.specs.Bytes.{frame-ok}
 use Rattle.definition.specs.Lists.{upto, all}
 use Rattle.laws.specs.Turns.{upto-next, upto-stop}
-use Rattle.book.proofs.blocks.all_framed.Statement.{statement}
-use Rattle.book.proofs.blocks.all_framed.Tie as tie
+use Rattle.frames.proofs.all_framed.Statement.{statement}
+use Rattle.frames.proofs.all_framed.Tie as tie
 
 abbrev Inv-loop : tie.InvT-loop
 Inv-loop book count sites rules i₀ i = (i ≤ count) × (all (frame-ok slots sites rules book) (upto i) ≡ true)

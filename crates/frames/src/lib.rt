@@ -1,7 +1,9 @@
 // Refusals 1 to 3: the length of a book, the sums of its blocks, and their frames with the filler bytes.
-use crate::fields::read16;
-use crate::fields::read32;
-use crate::fields::zero_bytes;
+pub mod fields;
+
+use fields::read16;
+use fields::read32;
+use fields::zero_bytes;
 ghost use mathlib.Core.Path.{_≡_};
 ghost use mathlib.Core.List.{[], _∷_};
 ghost use Prim.Native.Nat.{_+_, _*_, _/_, _<_, _≤_, min};
@@ -10,7 +12,7 @@ ghost use Rattle.definition.specs.Lists.{all, upto};
 ghost use Rattle.definition.specs.Book.{most, slots};
 ghost use Rattle.definition.specs.Accept.{lowest};
 ghost use Rattle.definition.specs.Bytes.{edition-1, length-ok, sum-of, sums-ok, framed, frame-ok, frames-ok};
-ghost use Rattle.book.specs.Shapes.{frame-with, blocks-in};
+ghost use Rattle.frames.specs.Shapes.{frame-with, blocks-in};
 
 const BLOCK_BYTES: usize = 512;
 

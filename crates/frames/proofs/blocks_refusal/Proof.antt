@@ -3,11 +3,11 @@ use mathlib.Core.Path.{_≡_, sym, _∙_}
 use mathlib.Core.Bool.{true, false}
 use borrow.Author.Needs.{needs}
 use borrow.Author.Tests.{not-true, not-false}
-use Rattle.book.proofs.Framing.{at-least-one}
+use Rattle.frames.proofs.Framing.{at-least-one}
 use Rattle.definition.specs.Book.{slots}
 use Rattle.definition.specs.Bytes.{length-ok, sums-ok, frames-ok}
-use Rattle.book.proofs.blocks.blocks_refusal.Statement.{statement}
-use Rattle.book.proofs.blocks.blocks_refusal.Tie as tie
+use Rattle.frames.proofs.blocks_refusal.Statement.{statement}
+use Rattle.frames.proofs.blocks_refusal.Tie as tie
 
 length-ok-requires : tie.Need-length-ok-requires
 length-ok-requires c κs = search needs

@@ -5,8 +5,8 @@ use borrow.Author.Tests.{lt-ltb, le-ltb}
 use lib.ListN.{length}
 use Rattle.definition.specs.Bytes.{length-ok}
 use Rattle.laws.specs.Answers.{and-first, and-rest}
-use Rattle.book.proofs.blocks.length_ok.Statement.{statement}
-use Rattle.book.proofs.blocks.length_ok.Tie as tie
+use Rattle.frames.proofs.length_ok.Statement.{statement}
+use Rattle.frames.proofs.length_ok.Tie as tie
 
 returns : tie.Need-returns
 unfolding length-ok

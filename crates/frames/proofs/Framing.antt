@@ -12,7 +12,7 @@ use Rattle.definition.specs.Book.{most, slots}
 use Rattle.definition.specs.Bytes.{le16, length-ok, frame, frame-ok, frames-ok, block-count, blocks-wanted, blocks-for, rules-a-block, rule-bytes}
 use Rattle.laws.specs.Tests.{both, every-at}
 use Rattle.laws.specs.Answers.{every-stop, every-rest, every-one}
-use Rattle.book.specs.Shapes.{frame-with, blocks-in, Sizes}
+use Rattle.frames.specs.Shapes.{frame-with, blocks-in, Sizes}
 
 pub frame-head : (n S R i : ℕ) → i ≡ 0 → frame n S R i ≡ frame-with 1 0 4
 unfolding frame

@@ -4,8 +4,8 @@ use borrow.Author.Needs.{needs}
 use borrow.Author.Tests.{eq-eqb, ne-eqb}
 use Rattle.definition.specs.Bytes.{framed}
 use Rattle.laws.specs.Answers.{every-stop, every-rest, every-one}
-use Rattle.book.proofs.blocks.framed.Statement.{statement}
-use Rattle.book.proofs.blocks.framed.Tie as tie
+use Rattle.frames.proofs.framed.Statement.{statement}
+use Rattle.frames.proofs.framed.Tie as tie
 
 mul-o : tie.Need-mul-o
 mul-o c = search needs

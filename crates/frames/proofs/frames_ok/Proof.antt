@@ -1,9 +1,9 @@
 -- The tests come in the order of the definition.
 use mathlib.Core.Path.{sym, _∙_}
 use borrow.Author.Needs.{needs}
-use Rattle.book.proofs.Framing.{many-sites, many-rules, wrong-total, by-blocks}
-use Rattle.book.proofs.blocks.frames_ok.Statement.{statement}
-use Rattle.book.proofs.blocks.frames_ok.Tie as tie
+use Rattle.frames.proofs.Framing.{many-sites, many-rules, wrong-total, by-blocks}
+use Rattle.frames.proofs.frames_ok.Statement.{statement}
+use Rattle.frames.proofs.frames_ok.Tie as tie
 
 read16-requires : tie.Need-read16-requires
 read16-requires c κs = search needs

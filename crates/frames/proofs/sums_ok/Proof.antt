@@ -9,8 +9,8 @@ use lib.ListN.{length}
 use Rattle.definition.specs.Bytes.{block-count, edition-1, sum-ok, sums-ok}
 use Rattle.definition.specs.Lists.{upto, all}
 use Rattle.laws.specs.Turns.{upto-next, upto-stop}
-use Rattle.book.proofs.blocks.sums_ok.Statement.{statement}
-use Rattle.book.proofs.blocks.sums_ok.Tie as tie
+use Rattle.frames.proofs.sums_ok.Statement.{statement}
+use Rattle.frames.proofs.sums_ok.Tie as tie
 
 abbrev Inv-loop : tie.InvT-loop
 Inv-loop book count i₀ i = (i ≤ count) × (count ≡ length book / 512) × (all (sum-ok (edition-1 .weight) book) (upto i) ≡ true)
