@@ -1,5 +1,4 @@
--- Laws of what is written and of what is read.
-pub mod Writing
+-- Laws of what is read, and of the text that is written for it.
 pub mod Reading
 pub mod Parts
 pub mod Turns

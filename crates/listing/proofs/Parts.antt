@@ -11,9 +11,9 @@ use Rattle.definition.specs.Listing.{let-line, equal-line, return-line, steps-t
 use Rattle.walk.proofs.Readers.{tagged}
 use Rattle.walk.proofs.Finds.{arm-found, step-found, return-found, pair-found, inner-part}
 use Rattle.listing.specs.declared.Seen.{Seen}
-use Rattle.listing.specs.Writes.{Writes}
+use Rattle.line.specs.Writes.{Writes}
 use Rattle.listing.specs.Ends.{Good, Ends, Returns, step-text, pattern-text, arm-text}
-use Rattle.listing.proofs.Writing.{writes-then, writes-as}
+use Rattle.line.proofs.Writing.{writes-then, writes-as}
 
 pub arm-good : (p : List ℕ) (i : ℕ) (sub : Reader Block) (w q : List ℕ) {l : List ℕ} {at n r : ℕ} {m : List ℕ} {c s : ℕ} {k : List ℕ} → Good (pattern-text p i) (read-pattern w) w l at n r m
     → q ≡ p ++ (i ∷ []) → Good (steps-text q 1) (sub (drop n w)) (drop n w) m r c s k → Good (arm-text p i) (read-arm sub w) w l at (n + c) s k

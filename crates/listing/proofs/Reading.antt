@@ -19,10 +19,10 @@ use Rattle.laws.specs.Tests.{and}
 use Rattle.walk.proofs.Readers.{id-yes, at-one}
 use Rattle.walk.proofs.Finds.{front-more, lets-found, place-fine, places-found, pattern-found}
 use Rattle.listing.specs.declared.Seen.{Seen}
-use Rattle.listing.specs.Writes.{Writes, places-head, arm-head}
+use Rattle.line.specs.Writes.{Writes, places-head, arm-head}
 use Rattle.walk.specs.Ends.{pattern-at}
 use Rattle.listing.specs.Ends.{Good, Ends, ends, pattern-text}
-use Rattle.listing.proofs.Writing.{Each, each-starts, each-turn, writes-then, writes-as}
+use Rattle.line.proofs.Writing.{Each, each-starts, each-turn, writes-then, writes-as}
 
 -- WHAT A CALLEE TOLD
 module _ {A : Type 0} {text : A → List ℕ} {o : Option (A × List ℕ)} {w l : List ℕ} {at : ℕ} {r : Seen} {m : List ℕ} where

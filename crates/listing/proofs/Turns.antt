@@ -10,9 +10,9 @@ use Rattle.definition.specs.Listing.{match-line, steps-text, flow-text, arms-te
 use Rattle.walk.proofs.Readers.{counted}
 use Rattle.walk.proofs.Finds.{found-as, match-read}
 use Rattle.walk.proofs.Loops.{Loop, loop-starts, loop-stop, loop-turn, loop-ends, step-onto, arm-onto}
-use Rattle.listing.specs.Writes.{Writes}
+use Rattle.line.specs.Writes.{Writes}
 use Rattle.listing.specs.Ends.{Good, step-text, arm-text}
-use Rattle.listing.proofs.Writing.{writes-none, writes-then, writes-as}
+use Rattle.line.proofs.Writing.{writes-none, writes-then, writes-as}
 
 -- ONE AFTER ANOTHER. `front` is the text in front of the first; `rest` is that of what is left, from number i + 1 on
 module _ {A B : Type 0} (rest : ℕ → A → List ℕ) (whole : B → List ℕ) (front : List ℕ) (many : ℕ → Reader A) where

@@ -1,22 +1,24 @@
--- The public call, from what `block` tells of the words.
+-- The public call, from what `block` tells of the words; and a text that is made zero.
 use mathlib.Core.Path.{_≡_, refl, sym, ap, _∙_}
 use mathlib.Core.Bool.{true, false, true≢false}
-use mathlib.Core.List.{List, []}
+use mathlib.Core.List.{List, [], _∷_, _++_, append-nil}
 use mathlib.Core.Option.{Option, none, some}
 use Prim.Native.Nat.{ℕ, _<_, _≤_}
 use native.Mathlib.Omega.{arith}
-use lib.ListN.{length, replicate}
+use lib.ListN.{length, replicate, length-replicate, drop-of-length-le}
+use lib.Seq.{take-all}
 use borrow.Author.Tests.{lt-leb, le-leb}
+use Rattle.definition.specs.Lists.{flat}
 use Rattle.definition.specs.Read.{read-block}
 use Rattle.definition.specs.Listing.{listing, steps-text}
 use Rattle.definition.specs.Answers.{written, list-read, listed}
 use Rattle.room.specs.Wrote.{Wrote}
 use Rattle.room.proofs.Written.{whole-fits}
 use Rattle.listing.specs.declared.Listed.{Listed}
-use Rattle.listing.specs.declared.line.Path.{Path}
-use Rattle.listing.specs.Writes.{numbers-of}
+use Rattle.line.specs.declared.Path.{Path}
+use Rattle.line.specs.Writes.{numbers-of}
 use Rattle.listing.specs.Ends.{Good, Leaves, is-some}
-use Rattle.listing.proofs.Writing.{writes-as}
+use Rattle.line.proofs.Writing.{writes-as, Each}
 
 pub root-path : (p : Path) → p .depth ≡ 0 → numbers-of p ≡ []
 root-path p e = rw e
@@ -68,3 +70,17 @@ module _ (ws l : List ℕ) where
           answer = rw (is-written, lt-leb (length (listing (g .thing))) (length l) z);
           text = rw (is-written, lt-leb (length (listing (g .thing))) (length l) z) (q ∙ ap (λ x. replicate x 0) (wrote .size));
         }
+
+-- ALL ZERO
+abbrev pub nought : ℕ → List ℕ
+nought b = 0 ∷ []
+
+zeros : (l : List ℕ) → flat nought l ≡ replicate (length l) 0
+zeros [] = refl
+zeros (x ∷ l) = ap (λ t. 0 ∷ t) (zeros l)
+
+pub zeroed : {k : ℕ} {l m : List ℕ} → Each nought l k l 0 k m → length l ≤ k → m ≡ replicate (length l) 0
+zeroed {k} {l} {m} e h =
+    let w : Wrote l 0 (replicate (length l) 0) k m = writes-as (e .wrote) (ap (flat nought) (take-all k l h) ∙ zeros l) .is (omega arith) in
+    let n = length-replicate {A = ℕ} (length l) 0 in
+    whole-fits w (omega (arith, n)) .1 ∙ ap (λ t. replicate (length l) 0 ++ t) (drop-of-length-le l {i = length (replicate (length l) 0)} (omega (arith, n))) ∙ append-nil (replicate (length l) 0)

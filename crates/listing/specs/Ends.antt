@@ -15,7 +15,7 @@ use Rattle.walk.specs.Found.{Found}
 use Rattle.listing.specs.declared.Seen.{Seen}
 use Rattle.listing.specs.declared.Seen.the-variants.{Tree, NoTree}
 use Rattle.listing.specs.declared.Listed.{Listed}
-use Rattle.listing.specs.Writes.{Writes}
+use Rattle.line.specs.Writes.{Writes}
 
 -- the public answer for each of the definition's
 abbrev pub told-as : Answer ℕ → Listed

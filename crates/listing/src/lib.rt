@@ -1,7 +1,5 @@
 // The listing of a tree, for people. The words are not trusted: every one of the root block is looked at, and the text is
 // written on the same way.
-mod line;
-
 use line::Path;
 ghost use mathlib.Core.Path.{_≡_};
 ghost use Prim.Native.Nat.{_+_, _*_, _≤_};
@@ -11,7 +9,7 @@ ghost use Rattle.definition.specs.Read.{place-of, place-ok as place-fine, read-
 ghost use Rattle.definition.specs.Listing.{let-line, places-text, steps-text, flow-text};
 ghost use Rattle.definition.specs.Answers.{listed};
 ghost use Rattle.listing.specs.Determined.{list-determined};
-ghost use Rattle.listing.specs.Writes.{Room, numbers-of};
+ghost use Rattle.line.specs.Writes.{Room, numbers-of};
 ghost use Rattle.listing.specs.Ends.{Ends, Returns, Leaves, is-some, step-text, pattern-text, arm-text};
 
 // The greatest id of a site or a rule; how many blocks stand one inside another at most.

@@ -1,5 +1,6 @@
 -- `clear` meets its contract: every byte becomes zero.
-use Rattle.listing.proofs.Writing.{Each, nought, each-starts, each-turn, writes-set, zeroed}
+use Rattle.line.proofs.Writing.{Each, each-starts, each-turn, writes-set}
+use Rattle.listing.proofs.Whole.{nought, zeroed}
 use borrow.Author.Needs.{needs}
 use native.Mathlib.Omega.{arith}
 use mathlib.Core.Path.{_≡_}

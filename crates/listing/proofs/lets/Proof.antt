@@ -4,7 +4,7 @@ use native.Mathlib.Omega.{arith}
 use mathlib.Core.Path.{_≡_}
 use Prim.Native.Nat.{_≤_, _-_}
 use lib.ListN.{length}
-use Rattle.listing.specs.Writes.{numbers-of}
+use Rattle.line.specs.Writes.{numbers-of}
 use Rattle.listing.proofs.Reading.{Lets, taken-starts, lets-turn, lets-good}
 use Rattle.listing.proofs.lets.Statement.{statement}
 use Rattle.listing.proofs.lets.Tie as tie

@@ -7,8 +7,8 @@ use lib.ListN.{length}
 use borrow.Author.Needs.{needs}
 use Rattle.definition.specs.Read.{read-block, read-arm}
 use Rattle.walk.proofs.Readers.{sum-within, arm-none}
-use Rattle.listing.specs.Writes.{numbers-of}
-use Rattle.listing.proofs.Writing.{room-less}
+use Rattle.line.specs.Writes.{numbers-of}
+use Rattle.line.proofs.Writing.{room-less}
 use Rattle.listing.proofs.Reading.{tail, told-none, told-good}
 use Rattle.walk.proofs.Finds.{arm-stops, match-bad}
 use Rattle.listing.proofs.Parts.{arm-good}

@@ -5,8 +5,8 @@ use lib.ListN.{length-drop}
 use borrow.Author.Needs.{needs}
 use Rattle.definition.specs.Read.{read-block, read-counted}
 use Rattle.walk.proofs.Readers.{flow-short, flow-other, pair-order, pair-high, pair-none, block-deep, block-empty, block-long, block-none}
-use Rattle.listing.specs.Writes.{numbers-of}
-use Rattle.listing.proofs.Writing.{room-less}
+use Rattle.line.specs.Writes.{numbers-of}
+use Rattle.line.proofs.Writing.{room-less}
 use Rattle.listing.proofs.Reading.{tail, told-none, told-good}
 use Rattle.walk.proofs.Finds.{block-left, block-found}
 use Rattle.listing.proofs.Parts.{flow-is, pair-good, counted-part}

@@ -25,9 +25,9 @@ use Rattle.listing.proofs.steps.Kinds as steps-kinds
 use Rattle.listing.proofs.+arm+arms+block+flow+pair+step+steps.Lts-steps as steps-lts
 use Rattle.listing.proofs.end.Reads as end-reads
 use Rattle.listing.proofs.lets.Reads as lets-reads
-use Rattle.listing.proofs.line.deeper.Reads as deeper-reads
-use Rattle.listing.proofs.line.put_equal.Reads as put-equal-reads
-use Rattle.listing.proofs.line.put_match.Reads as put-match-reads
+use Rattle.line.proofs.deeper.Reads as deeper-reads
+use Rattle.line.proofs.put_equal.Reads as put-equal-reads
+use Rattle.line.proofs.put_match.Reads as put-match-reads
 use Rattle.listing.proofs.pattern.Reads as pattern-reads
 use Rattle.listing.proofs.wide.Reads as wide-reads
 

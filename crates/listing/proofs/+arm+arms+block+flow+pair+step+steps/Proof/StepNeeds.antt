@@ -6,8 +6,8 @@ use lib.ListN.{length}
 use borrow.Author.Needs.{needs}
 use Rattle.definition.specs.Read.{read-block, read-tagged, read-step}
 use Rattle.walk.proofs.Readers.{sum-within, step-none, steps-empty}
-use Rattle.listing.specs.Writes.{numbers-of}
-use Rattle.listing.proofs.Writing.{room-less}
+use Rattle.line.specs.Writes.{numbers-of}
+use Rattle.line.proofs.Writing.{room-less}
 use Rattle.listing.proofs.Reading.{tail, told-none, told-good}
 use Rattle.walk.proofs.Finds.{step-stops}
 use Rattle.listing.proofs.Parts.{step-good}

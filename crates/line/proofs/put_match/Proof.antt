@@ -1,0 +1,34 @@
+-- `put_match` meets its contract: text behind text.
+use Rattle.line.proofs.Writing.{writes-then, writes-as, match-is}
+use borrow.Author.Needs.{needs}
+use Rattle.line.proofs.put_match.Statement.{statement}
+use Rattle.line.proofs.put_match.Tie as tie
+
+put-start-requires : tie.Need-put-start-requires
+put-start-requires c κs = search needs
+
+slice-aggregate-put-field : tie.Need-slice-aggregate-put-field
+slice-aggregate-put-field c = search needs
+
+put-field-requires : tie.Need-put-field-requires
+put-field-requires c κs = search needs
+
+put-byte-requires : tie.Need-put-byte-requires
+put-byte-requires c κs = search needs
+
+same-length : tie.Need-same-length
+same-length c = search needs
+
+returns : tie.Need-returns
+returns c = writes-as (writes-then (writes-then (c .before .before .before .before .before .before .before .before .before .before .before .put-start .ensures) (c .before .before .before .before .before .before .put-field .ensures)) (c .before .before .put-byte .ensures)) (match-is _ _ _)
+
+pub put-match-spec : {M : Type 1} → statement M
+put-match-spec =
+    tie.close
+    (tie.spec
+    put-start-requires
+    slice-aggregate-put-field
+    put-field-requires
+    put-byte-requires
+    same-length
+    returns)
