@@ -46,7 +46,7 @@ pub fn put_byte(b: u8, text: &mut [u8], at: usize) -> usize
     text.len() + 1
 }
 
-pub fn put_text(source: &[u8], text: &mut [u8], at: usize) -> usize
+fn put_text(source: &[u8], text: &mut [u8], at: usize) -> usize
     ensures { λ r. ⌜ Writes (now (text .entry)) at (now (source .entry)) r (now (text .exit)) ⌝ }
 {
     let mut pos = at;
@@ -69,14 +69,14 @@ fn put_digits(n: u32, text: &mut [u8], at: usize) -> usize
     put_byte(48 + (n % 10) as u8, text, next)
 }
 
-pub fn put_decimal(n: u32, text: &mut [u8], at: usize) -> usize
+fn put_decimal(n: u32, text: &mut [u8], at: usize) -> usize
     ensures { λ r. ⌜ Writes (now (text .entry)) at (decimal n) r (now (text .exit)) ⌝ }
 {
     put_digits(n, text, at)
 }
 
 // A name and a number.
-pub fn put_field(name: &[u8], n: u32, text: &mut [u8], at: usize) -> usize
+fn put_field(name: &[u8], n: u32, text: &mut [u8], at: usize) -> usize
     ensures { λ r. ⌜ Writes (now (text .entry)) at (now (name .entry) ++ decimal n) r (now (text .exit)) ⌝ }
 {
     let next = put_text(name, text, at);
@@ -132,7 +132,7 @@ fn put_limit(w: u32, text: &mut [u8], at: usize) -> usize
 }
 
 // A pattern's kind and number.
-pub fn put_kind(kind: u32, w: u32, text: &mut [u8], at: usize) -> usize
+fn put_kind(kind: u32, w: u32, text: &mut [u8], at: usize) -> usize
     ensures { λ r. ⌜ Writes (now (text .entry)) at (kind-text kind (signed w)) r (now (text .exit)) ⌝ }
 {
     if kind == 0 {
@@ -199,8 +199,8 @@ fn put_points(path: Path, text: &mut [u8], at: usize) -> usize
     pos
 }
 
-// Internal: the beginning of a line.
-pub fn put_start(path: Path, i: u32, text: &mut [u8], at: usize) -> usize
+// The beginning of a line.
+fn put_start(path: Path, i: u32, text: &mut [u8], at: usize) -> usize
     requires { ⌜ Room path 0 ⌝ }
     ensures { λ r. ⌜ Writes (now (text .entry)) at (start (numbers-of path) i) r (now (text .exit)) ⌝ }
 {

@@ -6,47 +6,36 @@ use borrow.Author.Needs.{needs}
 use Rattle.lister.proofs.print_listing.Statement.{statement}
 use Rattle.lister.proofs.print_listing.Tie as tie
 
--- src/main.rt:30:20
 text-room-requires : tie.Need-text-room-requires
 text-room-requires c κs = search needs
 
--- src/main.rt:31:32
 slice-aggregate-list : tie.Need-slice-aggregate-list
 slice-aggregate-list c = search needs
 
--- src/main.rt:31:11
 list-requires : tie.Need-list-requires
 list-requires c κs = search needs
 
--- src/main.rt:32:23
 enum-known-n : tie.Need-enum-known-n
 enum-known-n c = search needs
 
--- src/main.rt:33:42
 array-share-prefix-text : tie.Need-array-share-prefix-text
 array-share-prefix-text c = (bytes-inside _ _ _ (c .before .before .before .before .list .ensures) (c .before .n .given .1))
 
--- src/main.rt:33:42
 slice-aggregate-write-all : tie.Need-slice-aggregate-write-all
 slice-aggregate-write-all c = sym (length-take-le _ _ (bytes-inside _ _ _ (c .before .before .before .before .before .list .ensures) (c .before .before .n .given .1)))
 
--- src/main.rt:33:13
 write-all-requires : tie.Need-write-all-requires
 write-all-requires c κs = search needs
 
--- src/main.rt:35:25
 enum-known-n-2 : tie.Need-enum-known-n-2
 enum-known-n-2 c = search needs
 
--- src/main.rt:35:31
 refuse-requires : tie.Need-refuse-requires
 refuse-requires c κs = search needs
 
--- src/main.rt:29:1
 returns : tie.Need-returns
 returns c = search needs
 
--- src/main.rt:29:1
 returns-2 : tie.Need-returns-2
 returns-2 c = search needs
 

@@ -5,7 +5,6 @@ use lib.ListN.{length-replicate}
 use Rattle.lister.proofs.text_room.Statement.{statement}
 use Rattle.lister.proofs.text_room.Tie as tie
 
--- src/main.rt:17:1
 returns : tie.Need-returns
 returns c = sym (length-replicate {A = ℕ} 4194304 0)
 

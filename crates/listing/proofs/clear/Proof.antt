@@ -15,31 +15,24 @@ Inv-loop text₀ k₀ text k = Each nought text₀ k text₀ 0 k text × (length
 abbrev μ-loop : tie.MeasureT-loop
 μ-loop text₀ k₀ text k = length text₀ - k
 
--- src/lib.rt:307:5
 loop-holds : tie.Need-loop-holds Inv-loop μ-loop
 loop-holds c = (each-starts _ _ _ _, omega arith)
 
--- src/lib.rt:308:9
 slice-write-text : tie.Need-slice-write-text Inv-loop μ-loop
 slice-write-text c = search needs
 
--- src/lib.rt:309:9
 add-k : tie.Need-add-k Inv-loop μ-loop
 add-k c = search needs
 
--- src/lib.rt:307:5
 loop-less : tie.Need-loop-less Inv-loop μ-loop
 loop-less c = omega (arith, c .before .loop .inv .1, c .loop-test .taken)
 
--- src/lib.rt:307:5
 loop-again : tie.Need-loop-again Inv-loop μ-loop
 loop-again c = (each-turn (c .before .loop .inv .0) (omega (arith, c .before .loop .inv .1, c .loop-test .taken)) (writes-set _ _ _ (c .loop-test .taken)), search needs)
 
--- src/lib.rt:303:1
 same-length : tie.Need-same-length Inv-loop μ-loop
 same-length c = search needs
 
--- src/lib.rt:303:1
 returns : tie.Need-returns Inv-loop μ-loop
 returns c = zeroed (c .before .loop .inv .0) (omega (arith, c .before .loop .inv .1, c .loop-test .left))
 

@@ -6,39 +6,30 @@ use borrow.Author.Needs.{needs}
 use Rattle.listing.proofs.end.Statement.{statement}
 use Rattle.listing.proofs.end.Tie as tie
 
--- src/lib.rt:135:9
 returns : tie.Need-returns
 returns c = record { is = λ sub. record { is = return-short sub (c .before .before .before .args .w .now) (c .before .before .before .pre .0) (c .if1 .taken) } }
 
--- src/lib.rt:137:16
 shared-slice-read-rule : tie.Need-shared-slice-read-rule
 shared-slice-read-rule c = search needs
 
--- src/lib.rt:139:9
 returns-2 : tie.Need-returns-2
 returns-2 c = record { is = λ sub. record { is = return-rule sub (c .before .before .before .before .before .args .w .now) (omega arith) (omega arith) } }
 
--- src/lib.rt:141:18
 shared-slice-read-result : tie.Need-shared-slice-read-result
 shared-slice-read-result c = search needs
 
--- src/lib.rt:143:9
 returns-3 : tie.Need-returns-3
 returns-3 c = record { is = λ sub. record { is = return-result sub (c .before .before .before .before .before .before .before .args .w .now) (omega arith) (omega arith) } }
 
--- src/lib.rt:147:41
 shared-slice-read-put-return : tie.Need-shared-slice-read-put-return
 shared-slice-read-put-return c = search needs
 
--- src/lib.rt:147:9
 put-return-requires : tie.Need-put-return-requires
 put-return-requires c κs = c .before .before .before .before .before .before .before .before .before .pre .1
 
--- src/lib.rt:130:1
 same-length : tie.Need-same-length
 same-length c = search needs
 
--- src/lib.rt:130:1
 returns-4 : tie.Need-returns-4
 returns-4 c = return-good _ _ (c .before .before .before .before .before .before .before .before .before .before .before .before .args .w .now) (omega arith) (omega arith) (omega arith) (c .before .before .put-return .ensures)
 

@@ -6,31 +6,24 @@ use Rattle.listing.proofs.is_tree.Statement.{statement}
 use Rattle.listing.proofs.is_tree.Tie as tie
 use Rattle.listing.proofs.is_tree.Reads as reads
 
--- src/lib.rt:318:29
 root-requires : tie.Need-root-requires
 root-requires c κs = search needs
 
--- src/lib.rt:318:50
 slice-aggregate-block : tie.Need-slice-aggregate-block
 slice-aggregate-block c = search needs
 
--- src/lib.rt:318:9
 block-requires : tie.Need-block-requires
 block-requires c κs = c .before .root .ensures .1
 
--- src/lib.rt:320:29
 enum-told : tie.Need-enum-told
 enum-told c = search needs
 
--- src/lib.rt:321:25
 enum-told-2 : tie.Need-enum-told-2
 enum-told-2 c = search needs
 
--- src/lib.rt:314:1
 returns : tie.Need-returns
 returns c = some-read (told-good (c .before .before .before .block .ensures) (c .enum-told .given .1))
 
--- src/lib.rt:314:1
 returns-2 : tie.Need-returns-2
 returns-2 c = none-read _ (told-none (c .before .before .before .block .ensures) (c .enum-told2 .given .1))
 

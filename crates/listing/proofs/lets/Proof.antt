@@ -16,71 +16,54 @@ Inv-loop w path text₀ at n pos₀ i₀ text pos i = Lets (numbers-of path) w i
 abbrev μ-loop : tie.MeasureT-loop
 μ-loop w path text₀ at n pos₀ i₀ text pos i = n - i
 
--- src/lib.rt:71:9
 returns : tie.Need-returns Inv-loop μ-loop
 returns c = record { is = lets-empty (c .before .before .before .args .w .now) (omega arith) }
 
--- src/lib.rt:73:18
 shared-slice-read-wide : tie.Need-shared-slice-read-wide Inv-loop μ-loop
 shared-slice-read-wide c = search needs
 
--- src/lib.rt:73:9
 wide-requires : tie.Need-wide-requires Inv-loop μ-loop
 wide-requires c κs = search needs
 
--- src/lib.rt:75:9
 returns-2 : tie.Need-returns-2 Inv-loop μ-loop
 returns-2 c = record { is = lets-short (c .before .before .before .before .before .before .args .w .now) (c .before .wide .result) (omega arith) (c .before .wide .ensures) (omega arith) }
 
--- src/lib.rt:79:5
 loop-holds : tie.Need-loop-holds Inv-loop μ-loop
 loop-holds c = (taken-starts _ _ _ _ _, (omega arith, omega arith))
 
--- src/lib.rt:80:19
 add-x : tie.Need-add-x Inv-loop μ-loop
 add-x c = search needs
 
--- src/lib.rt:80:17
 mul-x : tie.Need-mul-x Inv-loop μ-loop
 mul-x c = search needs
 
--- src/lib.rt:80:17
 shared-slice-read-x : tie.Need-shared-slice-read-x Inv-loop μ-loop
 shared-slice-read-x c = search needs
 
--- src/lib.rt:82:13
 same-length : tie.Need-same-length Inv-loop μ-loop
 same-length c = search needs
 
--- src/lib.rt:82:13
 returns-3 : tie.Need-returns-3 Inv-loop μ-loop
 returns-3 c = record { is = lets-bad (c .before .before .before .before .before .before .before .before .before .before .args .w .now) (c .before .before .before .before .before .wide .result) (c .before .before .before .loop .i) (c .before .before .before .before .before .wide .ensures) (omega arith) (omega arith) (omega arith) }
 
--- src/lib.rt:84:9
 put-let-requires : tie.Need-put-let-requires Inv-loop μ-loop
 put-let-requires c κs = c .before .before .before .before .before .before .before .before .before .before .before .pre
 
--- src/lib.rt:85:9
 add-i : tie.Need-add-i Inv-loop μ-loop
 add-i c = search needs
 
--- src/lib.rt:79:5
 loop-less : tie.Need-loop-less Inv-loop μ-loop
 loop-less c = search needs
 
--- src/lib.rt:79:5
 loop-again : tie.Need-loop-again Inv-loop μ-loop
 loop-again c = (lets-turn (numbers-of (c .before .before .before .before .before .before .before .before .before .before .before .before .before .before .args .path)) (c .before .before .before .before .before .before .before .before .before .before .before .before .before .before .args .w .now) (c .before .before .before .before .before .before .before .loop .inv .0) (omega arith) (omega arith) (c .before .before .put-let .ensures), (omega arith, search needs))
 
--- src/lib.rt:87:16
 add-t9 : tie.Need-add-t9 Inv-loop μ-loop
 add-t9 c = search needs
 
--- src/lib.rt:66:1
 same-length-2 : tie.Need-same-length-2 Inv-loop μ-loop
 same-length-2 c = search needs
 
--- src/lib.rt:66:1
 returns-4 : tie.Need-returns-4 Inv-loop μ-loop
 returns-4 c = record { is = lets-good _ (c .before .before .before .before .before .before .before .before .args .w .now) (c .before .before .before .wide .result) (c .before .loop .i) (c .before .loop .inv .0) (c .before .before .before .wide .ensures) (omega arith) (omega arith) (omega arith) }
 

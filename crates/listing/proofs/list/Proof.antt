@@ -9,55 +9,42 @@ use borrow.Author.Needs.{needs}
 use Rattle.listing.proofs.list.Statement.{statement}
 use Rattle.listing.proofs.list.Tie as tie
 
--- src/lib.rt:330:9
 is-tree-requires : tie.Need-is-tree-requires
 is-tree-requires c κs = search needs
 
--- src/lib.rt:331:9
 returns : tie.Need-returns
 returns c = no-tree (c .before .before .before .before .args .words .now) (c .before .before .before .before .args .text .now) (not-read _ (sym (not-true (c .before .is-tree .result) (c .if1 .taken)) ∙ c .before .is-tree .ensures))
 
--- src/lib.rt:333:29
 root-requires : tie.Need-root-requires
 root-requires c κs = search needs
 
--- src/lib.rt:333:9
 block-requires : tie.Need-block-requires
 block-requires c κs = c .before .root .ensures .1
 
--- src/lib.rt:334:23
 enum-known-seen : tie.Need-enum-known-seen
 enum-known-seen c = search needs
 
--- src/lib.rt:335:9
 enum-told : tie.Need-enum-told
 enum-told c = search needs
 
--- src/lib.rt:335:9
 same-length : tie.Need-same-length
 same-length c = search needs
 
--- src/lib.rt:335:9
 returns-2 : tie.Need-returns-2
 returns-2 c = never-both (read-block 9 (c .before .before .before .before .before .before .before .before .before .before .before .args .words .now)) (sym (not-false (c .before .before .before .before .before .before .before .before .is-tree .result) (c .before .before .before .before .before .before .before .if1 .left)) ∙ c .before .before .before .before .before .before .before .before .is-tree .ensures) (told-none (c .before .before .before .before .block .ensures) (c .enum-told .given .1))
 
--- src/lib.rt:338:9
 clear-requires : tie.Need-clear-requires
 clear-requires c κs = search needs
 
--- src/lib.rt:339:9
 same-length-2 : tie.Need-same-length-2
 same-length-2 c = search needs
 
--- src/lib.rt:339:9
 returns-3 : tie.Need-returns-3
 returns-3 c = too-long (c .before .before .before .before .before .before .before .before .before .before .before .before .before .before .before .before .before .args .words .now) (c .before .before .before .before .before .before .before .before .before .before .before .before .before .before .before .before .before .args .text .now) (root-path _ (c .before .before .before .before .before .before .before .before .before .before .before .before .root .ensures .0)) (told-good (c .before .before .before .before .before .before .before .before .before .before .block .ensures) (c .before .before .before .before .before .before .seen .given .1)) (omega (arith, c .before .before .before .before .if2 .taken)) (c .before .before .clear .ensures)
 
--- src/lib.rt:327:1
 same-length-3 : tie.Need-same-length-3
 same-length-3 c = search needs
 
--- src/lib.rt:327:1
 returns-4 : tie.Need-returns-4
 returns-4 c = lists (c .before .before .before .before .before .before .before .before .before .before .before .before .before .args .words .now) (c .before .before .before .before .before .before .before .before .before .before .before .before .before .args .text .now) (root-path _ (c .before .before .before .before .before .before .before .before .root .ensures .0)) (told-good (c .before .before .before .before .before .before .block .ensures) (c .before .before .seen .given .1)) (omega (arith, c .if2 .left))
 

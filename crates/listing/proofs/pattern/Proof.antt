@@ -10,91 +10,69 @@ use borrow.Author.Needs.{needs}
 use Rattle.listing.proofs.pattern.Statement.{statement}
 use Rattle.listing.proofs.pattern.Tie as tie
 
--- src/lib.rt:116:9
 returns : tie.Need-returns
 returns c = record { is = pattern-short (c .before .before .before .args .w .now) (omega arith) }
 
--- src/lib.rt:118:20
 shared-slice-read-pattern-ok : tie.Need-shared-slice-read-pattern-ok
 shared-slice-read-pattern-ok c = search needs
 
--- src/lib.rt:118:26
 shared-slice-read-pattern-ok-2 : tie.Need-shared-slice-read-pattern-ok-2
 shared-slice-read-pattern-ok-2 c = search needs
 
--- src/lib.rt:118:32
 shared-slice-read-pattern-ok-3 : tie.Need-shared-slice-read-pattern-ok-3
 shared-slice-read-pattern-ok-3 c = search needs
 
--- src/lib.rt:118:9
 pattern-ok-requires : tie.Need-pattern-ok-requires
 pattern-ok-requires c κs = search needs
 
--- src/lib.rt:119:9
 returns-2 : tie.Need-returns-2
 returns-2 c = record { is = pattern-bad (c .before .before .before .before .before .before .before .before .args .w .now) (omega arith) (sym (not-true (c .before .pattern-ok .result) (c .if2 .taken)) ∙ c .before .pattern-ok .ensures) }
 
--- src/lib.rt:121:40
 shared-slice-read-put-arm : tie.Need-shared-slice-read-put-arm
 shared-slice-read-put-arm c = search needs
 
--- src/lib.rt:121:46
 shared-slice-read-put-arm-2 : tie.Need-shared-slice-read-put-arm-2
 shared-slice-read-put-arm-2 c = search needs
 
--- src/lib.rt:121:9
 put-arm-requires : tie.Need-put-arm-requires
 put-arm-requires c κs = c .before .before .before .before .before .before .before .before .before .before .before .pre
 
--- src/lib.rt:122:23
 sub-places : tie.Need-sub-places
 sub-places c = search needs
 
--- src/lib.rt:122:23
 part-places-start : tie.Need-part-places-start
 part-places-start c = search needs
 
--- src/lib.rt:122:23
 part-places-end : tie.Need-part-places-end
 part-places-end c = search needs
 
--- src/lib.rt:122:32
 shared-slice-read-places : tie.Need-shared-slice-read-places
 shared-slice-read-places c = search needs
 
--- src/lib.rt:122:9
 places-requires : tie.Need-places-requires
 places-requires c κs = search needs
 
--- src/lib.rt:123:20
 enum-known-seen : tie.Need-enum-known-seen
 enum-known-seen c = search needs
 
--- src/lib.rt:124:9
 enum-told : tie.Need-enum-told
 enum-told c = search needs
 
--- src/lib.rt:124:9
 same-length : tie.Need-same-length
 same-length c = search needs
 
--- src/lib.rt:124:9
 returns-3 : tie.Need-returns-3
 returns-3 c = record { is = pattern-none (c .before .before .before .before .before .before .before .before .before .before .before .before .before .before .before .before .before .before .before .before .before .before .args .w .now) (omega arith) (told-none (tail (read-places (getD (c .before .before .before .before .before .before .before .before .before .before .before .before .before .before .before .before .before .before .before .before .before .before .args .w .now) 1 0)) (c .before .before .before .before .before .before .before .before .before .before .before .before .before .before .before .before .before .before .before .before .before .before .args .w .now) 3 (c .before .before .before .before .places .ensures)) (c .enum-told .given .1)) }
 
--- src/lib.rt:126:16
 add-t10 : tie.Need-add-t10
 add-t10 c = omega (arith, told-good (tail (read-places (getD (c .before .before .before .before .before .before .before .before .before .before .before .before .before .before .before .before .before .before .before .before .before .before .before .args .w .now) 1 0)) (c .before .before .before .before .before .before .before .before .before .before .before .before .before .before .before .before .before .before .before .before .before .before .before .args .w .now) 3 (c .before .before .before .before .before .places .ensures)) (c .before .seen .given .1) .within, length-drop 3 (c .before .before .before .before .before .before .before .before .before .before .before .before .before .before .before .before .before .before .before .before .before .before .before .args .w .now))
 
--- src/lib.rt:126:23
 put-byte-requires : tie.Need-put-byte-requires
 put-byte-requires c κs = search needs
 
--- src/lib.rt:111:1
 same-length-2 : tie.Need-same-length-2
 same-length-2 c = search needs
 
--- src/lib.rt:111:1
 returns-4 : tie.Need-returns-4
 returns-4 c = record { is = pattern-good _ _ (c .before .before .before .before .before .before .before .before .before .before .before .before .before .before .before .before .before .before .before .before .before .before .before .before .before .before .before .args .w .now) (omega arith) (sym (not-false (c .before .before .before .before .before .before .before .before .before .before .before .before .before .before .before .before .before .before .before .before .pattern-ok .result) (c .before .before .before .before .before .before .before .before .before .before .before .before .before .before .before .before .before .before .before .if2 .left)) ∙ c .before .before .before .before .before .before .before .before .before .before .before .before .before .before .before .before .before .before .before .before .pattern-ok .ensures) (c .before .before .before .before .before .before .before .before .before .before .before .before .before .before .before .put-arm .ensures) (told-good (tail (read-places (getD (c .before .before .before .before .before .before .before .before .before .before .before .before .before .before .before .before .before .before .before .before .before .before .before .before .before .before .before .args .w .now) 1 0)) (c .before .before .before .before .before .before .before .before .before .before .before .before .before .before .before .before .before .before .before .before .before .before .before .before .before .before .before .args .w .now) 3 (c .before .before .before .before .before .before .before .before .before .places .ensures)) (c .before .before .before .before .before .seen .given .1)) (c .before .before .put-byte .ensures) }
 

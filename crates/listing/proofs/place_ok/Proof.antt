@@ -3,11 +3,9 @@ use Rattle.listing.proofs.Reading.{place-yes, place-is}
 use Rattle.listing.proofs.place_ok.Statement.{statement}
 use Rattle.listing.proofs.place_ok.Tie as tie
 
--- src/lib.rt:59:1
 returns : tie.Need-returns
 returns c = place-yes (c .before .args .w) (c .if1 .taken)
 
--- src/lib.rt:59:1
 returns-2 : tie.Need-returns-2
 returns-2 c = place-is (c .before .args .w) (c .if1 .left)
 

@@ -17,71 +17,54 @@ Inv-loop w count text₀ at n pos₀ i₀ text pos i = Places w i text₀ pos₀
 abbrev μ-loop : tie.MeasureT-loop
 μ-loop w count text₀ at n pos₀ i₀ text pos i = n - i
 
--- src/lib.rt:94:9
 wide-requires : tie.Need-wide-requires Inv-loop μ-loop
 wide-requires c κs = search needs
 
--- src/lib.rt:96:9
 returns : tie.Need-returns Inv-loop μ-loop
 returns c = record { is = places-short (c .before .before .before .before .args .w .now) (c .before .before .before .before .args .count) (omega (arith, c .before .wide .ensures)) }
 
--- src/lib.rt:98:9
 put-places-requires : tie.Need-put-places-requires Inv-loop μ-loop
 put-places-requires c κs = search needs
 
--- src/lib.rt:100:5
 loop-holds : tie.Need-loop-holds Inv-loop μ-loop
 loop-holds c = (taken-starts _ _ _ _ _, (omega arith, omega arith))
 
--- src/lib.rt:101:22
 mul-place-ok : tie.Need-mul-place-ok Inv-loop μ-loop
 mul-place-ok c = search needs
 
--- src/lib.rt:101:22
 shared-slice-read-place-ok : tie.Need-shared-slice-read-place-ok Inv-loop μ-loop
 shared-slice-read-place-ok c = search needs
 
--- src/lib.rt:101:13
 place-ok-requires : tie.Need-place-ok-requires Inv-loop μ-loop
 place-ok-requires c κs = search needs
 
--- src/lib.rt:102:13
 same-length : tie.Need-same-length Inv-loop μ-loop
 same-length c = search needs
 
--- src/lib.rt:102:13
 returns-2 : tie.Need-returns-2 Inv-loop μ-loop
 returns-2 c = record { is = places-bad (c .before .before .before .before .before .before .before .before .before .before .before .before .before .args .w .now) (c .before .before .before .before .before .before .before .before .before .before .before .before .before .args .count) (c .before .before .before .before .loop .i) (omega arith) (omega arith) (sym (c .before .place-ok .ensures) ∙ not-true (c .before .place-ok .result) (c .if2 .taken)) }
 
--- src/lib.rt:104:31
 mul-put-place : tie.Need-mul-put-place Inv-loop μ-loop
 mul-put-place c = search needs
 
--- src/lib.rt:104:31
 shared-slice-read-put-place : tie.Need-shared-slice-read-put-place Inv-loop μ-loop
 shared-slice-read-put-place c = search needs
 
--- src/lib.rt:104:9
 put-place-requires : tie.Need-put-place-requires Inv-loop μ-loop
 put-place-requires c κs = search needs
 
--- src/lib.rt:105:9
 add-i : tie.Need-add-i Inv-loop μ-loop
 add-i c = search needs
 
--- src/lib.rt:100:5
 loop-less : tie.Need-loop-less Inv-loop μ-loop
 loop-less c = search needs
 
--- src/lib.rt:100:5
 loop-again : tie.Need-loop-again Inv-loop μ-loop
 loop-again c = (taken-turn (c .before .before .before .before .before .before .before .before .before .loop .inv .0) (omega arith) (sym (c .before .before .before .before .before .before .place-ok .ensures) ∙ not-false (c .before .before .before .before .before .before .place-ok .result) (c .before .before .before .before .before .if2 .left)) (c .before .before .put-place .ensures), (omega arith, search needs))
 
--- src/lib.rt:91:1
 same-length-2 : tie.Need-same-length-2 Inv-loop μ-loop
 same-length-2 c = search needs
 
--- src/lib.rt:91:1
 returns-3 : tie.Need-returns-3 Inv-loop μ-loop
 returns-3 c = record { is = places-good (c .before .before .before .before .before .before .before .before .before .before .args .w .now) (c .before .before .before .before .before .before .before .wide .result) _ (c .before .loop .i) (c .before .before .before .before .before .before .before .wide .ensures) (c .before .before .before .before .put-places .ensures) (c .before .loop .inv .0) (omega arith) (omega arith) (omega arith) }
 
