@@ -4,7 +4,7 @@ use native.Mathlib.Omega.{arith}
 use lib.Seq.{length-take-le}
 use lib.ListN.{length}
 use Rattle.definition.specs.Book.{most}
-use Rattle.plan.proofs.Ready.{drawn}
+use Rattle.blocks.proofs.Ready.{drawn}
 use Rattle.plan.proofs.Rooting.{root-planning, root-made}
 use borrow.Author.Needs.{needs}
 use Rattle.plan.proofs.root_block.Statement.{statement}
