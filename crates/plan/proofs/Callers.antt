@@ -13,7 +13,7 @@ use Rattle.definition.specs.Tree.{words}
 use Rattle.definition.specs.Answers.{refused, answered, written, planned}
 use Rattle.laws.specs.Tests.{split}
 use Rattle.plan.specs.declared.Planned.{Planned}
-use Rattle.plan.specs.Made.{shown-planned, Leaves}
+use Rattle.plan.specs.Leaves.{shown-planned, Leaves}
 
 not-both : {n k : ℕ} → answered n ≡ refused k → ⊥
 not-both e = let z : _≡_ {A = ℕ} 0 1 = cc in omega arith

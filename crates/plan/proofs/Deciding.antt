@@ -22,9 +22,9 @@ use Rattle.theorems.specs.Proved.{demands}
 use Rattle.scope.proofs.Drawings.{book-table}
 use Rattle.book.specs.declared.Contents.{Contents}
 use Rattle.book.specs.Reply.{Decoded}
+use Rattle.blocks.specs.Work.{Accepted}
 use Rattle.plan.specs.declared.Planned.{Planned}
-use Rattle.plan.specs.Work.{Accepted}
-use Rattle.plan.specs.Made.{Leaves}
+use Rattle.plan.specs.Leaves.{Leaves}
 
 module _ {b t u : List ℕ} {c : Contents} (d : Decoded b c t u) where
   not-refused : {s n k : ℕ} → Contents.Tables s n ≡ Contents.Refused k → ⊥

@@ -23,10 +23,11 @@ use Rattle.room.proofs.Written.{whole-fits}
 use Rattle.scope.specs.declared.Scope.{Scope}
 use Rattle.scope.specs.States.{Fresh}
 use Rattle.scope.proofs.Standing.{joined-none, stands-root}
+use Rattle.blocks.specs.Work.{Accepted, Part, Scoped, Planning}
+use Rattle.blocks.specs.Made.{BlockMade}
+use Rattle.blocks.proofs.Bounds.{root-bounded}
 use Rattle.plan.specs.declared.Planned.{Planned}
-use Rattle.plan.specs.Work.{Accepted, Part, Scoped, Planning}
-use Rattle.plan.specs.Made.{BlockMade, Leaves}
-use Rattle.plan.proofs.Bounds.{root-bounded}
+use Rattle.plan.specs.Leaves.{Leaves}
 
 root-scoped : (b : Book) {s : Scope} → Fresh (worked-out b nowhere) s → Scoped s
 root-scoped b f = record { joined = []; classes = joined-none (f .root); states-ok = rw (f .states) (root-bounded b) }

@@ -5,7 +5,7 @@ use Prim.Native.Nat.{ℕ}
 use native.Mathlib.Omega.{arith}
 use Rattle.definition.specs.Answers.{planned}
 use Rattle.plan.specs.declared.Planned.{Planned}
-use Rattle.plan.specs.Made.{shown-planned, Leaves}
+use Rattle.plan.specs.Leaves.{shown-planned, Leaves}
 
 shown-same : (p q : Planned) → shown-planned p ≡ shown-planned q → p ≡ q
 shown-same (Planned.Words n) (Planned.Words m) e = let z : n ≡ m = cc in ap (λ k. Planned.Words k) z

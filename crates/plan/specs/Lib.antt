@@ -1,4 +1,3 @@
 -- What the contracts of `plan` cite beside the definition.
-pub mod Work
-pub mod Made
+pub mod Leaves
 pub mod Determined

@@ -14,31 +14,24 @@ Inv-loop order₀ i₀ order i = Filled (λ k. k) i order₀ order × ((i ≤ 25
 abbrev μ-loop : tie.MeasureT-loop
 μ-loop order₀ i₀ order i = 252 - i
 
--- src/lib.rt:392:5
 loop-holds : tie.Need-loop-holds Inv-loop μ-loop
 loop-holds c = (fill-starts _ _, (omega arith, refl))
 
--- src/lib.rt:393:20
 cast-order : tie.Need-cast-order Inv-loop μ-loop
 cast-order c = omega (arith, c .loop-test .taken)
 
--- src/lib.rt:393:9
 array-write-order : tie.Need-array-write-order Inv-loop μ-loop
 array-write-order c = let g = c .before .loop .inv in omega (arith, c .loop-test .taken, g .0 .long, g .1 .1)
 
--- src/lib.rt:394:9
 add-i : tie.Need-add-i Inv-loop μ-loop
 add-i c = search needs
 
--- src/lib.rt:392:5
 loop-less : tie.Need-loop-less Inv-loop μ-loop
 loop-less c = search needs
 
--- src/lib.rt:392:5
 loop-again : tie.Need-loop-again Inv-loop μ-loop
 loop-again c = let g = c .before .loop .inv in (fill-turn (λ k. k) (g .0) (omega (arith, c .loop-test .taken, g .0 .long, g .1 .1)) refl, (omega (arith, c .loop-test .taken), g .1 .1))
 
--- src/lib.rt:387:1
 returns : tie.Need-returns Inv-loop μ-loop
 returns c = λ k h. c .before .loop .inv .0 .so-far k (omega (arith, c .loop-test .left))
 

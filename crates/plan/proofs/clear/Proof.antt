@@ -14,35 +14,27 @@ Inv-loop room₀ k₀ room k = Filled (λ _. 0) k room₀ room
 abbrev μ-loop : tie.MeasureT-loop
 μ-loop room₀ k₀ room k = length room - k
 
--- src/lib.rt:403:5
 loop-holds : tie.Need-loop-holds Inv-loop μ-loop
 loop-holds c = fill-starts _ _
 
--- src/lib.rt:404:9
 mul-room : tie.Need-mul-room Inv-loop μ-loop
 mul-room c = search needs
 
--- src/lib.rt:404:9
 slice-write-room : tie.Need-slice-write-room Inv-loop μ-loop
 slice-write-room c = search needs
 
--- src/lib.rt:405:9
 add-k : tie.Need-add-k Inv-loop μ-loop
 add-k c = search needs
 
--- src/lib.rt:403:5
 loop-less : tie.Need-loop-less Inv-loop μ-loop
 loop-less c = let g = fill-turn (λ _. 0) (c .before .loop .inv) (c .loop-test .taken) {v = 0} refl in omega (arith, g .long, c .before .loop .inv .long, c .loop-test .taken)
 
--- src/lib.rt:403:5
 loop-again : tie.Need-loop-again Inv-loop μ-loop
 loop-again c = fill-turn (λ _. 0) (c .before .loop .inv) (c .loop-test .taken) refl
 
--- src/lib.rt:399:1
 same-length : tie.Need-same-length Inv-loop μ-loop
 same-length c = c .before .loop .inv .long
 
--- src/lib.rt:399:1
 returns : tie.Need-returns Inv-loop μ-loop
 returns c = all-zero (c .before .loop .inv) (c .loop-test .left)
 

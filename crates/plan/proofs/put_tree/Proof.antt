@@ -7,39 +7,30 @@ use borrow.Author.Needs.{needs}
 use Rattle.plan.proofs.put_tree.Statement.{statement}
 use Rattle.plan.proofs.put_tree.Tie as tie
 
--- src/lib.rt:432:9
 enough-requires : tie.Need-enough-requires
 enough-requires c κs = search needs
 
--- src/lib.rt:433:46
 slice-relend-prefix-root-block : tie.Need-slice-relend-prefix-root-block
 slice-relend-prefix-root-block c = search needs
 
--- src/lib.rt:433:46
 slice-aggregate-root-block : tie.Need-slice-aggregate-root-block
 slice-aggregate-root-block c = sym (length-take-le _ _ (omega (arith, c .before .enough .ensures)))
 
--- src/lib.rt:433:9
 root-block-requires : tie.Need-root-block-requires
 root-block-requires c κs = (c .before .before .before .before .before .pre .0, (let z = length-take-le (c .before .enough .result) (c .before .before .before .before .before .args .room .now) (omega (arith, c .before .enough .ensures)) in omega (arith, c .before .enough .ensures, z)))
 
--- src/lib.rt:435:9
 clear-requires : tie.Need-clear-requires
 clear-requires c κs = search needs
 
--- src/lib.rt:436:9
 same-length : tie.Need-same-length
 same-length c = search needs
 
--- src/lib.rt:436:9
 returns : tie.Need-returns
 returns c = tree-short _ _ _ _ (c .before .before .before .before .before .before .before .before .before .before .before .before .before .pre .1) (c .before .before .before .before .before .before .before .before .before .enough .ensures) (c .before .before .before .before .before .before .before .root-block .ensures) (c .before .before .before .before .if1 .taken) (c .before .before .clear .ensures)
 
--- src/lib.rt:428:1
 same-length-2 : tie.Need-same-length-2
 same-length-2 c = search needs
 
--- src/lib.rt:428:1
 returns-2 : tie.Need-returns-2
 returns-2 c = tree-fits _ _ _ _ (c .before .before .before .before .before .before .before .before .before .pre .1) (c .before .before .before .before .before .enough .ensures) (c .before .before .before .root-block .ensures) (c .if1 .left)
 

@@ -1,0 +1,3 @@
+-- What the contracts of `blocks` cite beside the definition.
+pub mod Work
+pub mod Made
