@@ -3,7 +3,6 @@ use libc::STDIN_FILENO;
 use libc::STDOUT_FILENO;
 use plan::Planned;
 ghost use mathlib.Core.Path.{_≡_};
-ghost use Prim.Native.Nat.{_≤_};
 ghost use lib.ListN.{length};
 
 // Room for the words of a tree, as document 01 gives its program.

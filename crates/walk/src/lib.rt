@@ -1,20 +1,20 @@
 // Walks the words of a tree under a reading. The words are not trusted: every one of the root block is looked at, and
 // the walk's answer is found on the same way.
 ghost use mathlib.Core.Path.{_≡_};
-ghost use mathlib.Core.Bool.{Bool, true, false, _&&_, not};
+ghost use mathlib.Core.Bool.{true, false, _&&_, not};
 ghost use mathlib.Core.List.{List};
-ghost use mathlib.Core.Option.{Option, none, some};
+ghost use mathlib.Core.Option.{none};
 ghost use Prim.Native.Nat.{ℕ, _+_, _<_, _≤_, max};
 ghost use lib.ListN.{length, getD, drop};
-ghost use lib.IntN.{ℤ, pos};
+ghost use lib.IntN.{pos};
 ghost use lib.Dec.{eqb};
 ghost use Rattle.definition.specs.Lists.{same-number, if_then_else_};
 ghost use Rattle.definition.specs.Accept.{pattern-ok};
-ghost use Rattle.definition.specs.Walk.{walk as stops, placed-in, sites-in, flow-sites, arm-sites};
+ghost use Rattle.definition.specs.Walk.{walk as stops, placed-in, sites-in, flow-sites};
 ghost use Rattle.definition.specs.Tables.{signed};
-ghost use Rattle.definition.specs.Read.{read-lets, read-places, read-pattern, read-flow, read-arm, read-arms, read-tagged, read-step, read-counted, read-block};
+ghost use Rattle.definition.specs.Read.{read-lets, read-places, read-pattern, read-flow, read-arm, read-tagged, read-step, read-counted, read-block};
 ghost use Rattle.definition.specs.Answers.{walked};
-ghost use Rattle.walk.specs.Ends.{Ends, Held, Returns, told-as, stop-of, never, reading, arm-names, arm-stop, step-names, step-stop, flow-stop, arms-stop, pattern-names, pattern-at};
+ghost use Rattle.walk.specs.Ends.{Ends, Held, Returns, told-as, stop-of, never, reading, arm-names, arm-stop, step-names, step-stop, flow-stop, pattern-names, pattern-at};
 ghost use Rattle.walk.specs.Determined.{walk-determined};
 ghost use Rattle.laws.specs.Firsts.{or-else};
 
