@@ -1,7 +1,6 @@
 -- How the search for the greatest worth finds the definition's choice.
 pub mod Answers
 pub mod Nearby
-pub mod Ends
 pub mod Tops
 pub mod Keys
 pub mod Whole

@@ -16,6 +16,7 @@ pub mod Winners
 pub mod Greatest
 pub mod Sorted
 pub mod Ascending
+pub mod Passing
 pub mod Splits
 pub mod Sides
 pub mod Firsts

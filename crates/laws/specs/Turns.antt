@@ -5,8 +5,10 @@ use mathlib.Core.Bool.{Bool, true, false, _&&_, _||_}
 use mathlib.Core.List.{List, [], _∷_, _++_, map, append-assoc, append-nil}
 use Prim.Native.Nat.{ℕ, zero, suc, _+_, _*_, _<_}
 use native.Mathlib.Omega.{arith}
+use native.Mathlib.Numerals.{add-one}
 use lib.Dec.{ltb}
 use lib.ListN.{length, getD, take, length-append, length-map}
+use lib.Seq.{take-suc}
 use borrow.Author.Tests.{ltb-true, ltb-false}
 use Rattle.definition.specs.Lists.{from, upto, all, any, flat}
 use Rattle.laws.specs.Tests.{split, clash, same-test, and}
@@ -63,6 +65,12 @@ front-stop p [] i n h k e = absurd (omega arith)
 front-stop p (x ∷ l) i zero h k e = absurd (omega arith)
 front-stop p (x ∷ l) zero (suc n) h k e = rw e
 front-stop p (x ∷ l) (suc i) (suc n) h k e = and-second (p x) (front-stop p l i n (omega arith) (omega arith) e)
+
+-- one more of the first entries passes
+pub front-more : (p : ℕ → Bool) (l : List ℕ) (i : ℕ) → all p (take i l) ≡ true → i < length l → p (getD l i 0) ≡ true → all p (take (i + 1) l) ≡ true
+front-more p l i h k e =
+    let s : take (i + 1) l ≡ take i l ++ (getD l i 0 ∷ []) = rw add-one (take-suc l i 0 k) in
+    rw s (all-append p (take i l) (getD l i 0 ∷ []) ∙ and h (and e refl))
 
 -- what every number below n says
 pub from-at : (p : ℕ → Bool) (a n k : ℕ) → all p (from a n) ≡ true → k < n → p (a + k) ≡ true

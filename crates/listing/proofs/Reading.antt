@@ -15,9 +15,9 @@ use Rattle.definition.specs.Tables.{signed}
 use Rattle.definition.specs.Read.{id-ok, place-ok, place-of, read-lets, read-places, read-pattern}
 use Rattle.definition.specs.Listing.{text, let-line, arm-line, place-text, places-text}
 use Rattle.laws.specs.Lending.{tail-part}
-use Rattle.laws.specs.Tests.{and}
+use Rattle.laws.specs.Turns.{front-more}
 use Rattle.walk.proofs.Readers.{id-yes, at-one}
-use Rattle.walk.proofs.Finds.{front-more, lets-found, place-fine, places-found, pattern-found}
+use Rattle.walk.proofs.Finds.{lets-found, place-fine, places-found, pattern-found}
 use Rattle.listing.specs.declared.Seen.{Seen}
 use Rattle.line.specs.Writes.{Writes, places-head, arm-head}
 use Rattle.walk.specs.Ends.{pattern-at}

@@ -1,13 +1,12 @@
 -- What stands first in a list of words, from its parts, whatever is said of it.
 use mathlib.Core.Path.{_≡_, refl, sym, ap, subst, _∙_}
 use mathlib.Core.Bool.{Bool, true, false, _&&_}
-use mathlib.Core.List.{List, [], _∷_, _++_, map}
+use mathlib.Core.List.{List, [], _∷_, map}
 use mathlib.Core.Option.{Option, none, some}
 use Prim.Native.Nat.{ℕ, suc, _+_, _-_, _<_, _≤_}
 use native.Mathlib.Omega.{arith}
-use native.Mathlib.Numerals.{add-one}
 use lib.ListN.{length, getD, take, drop, length-drop, length-take}
-use lib.Seq.{take-suc, drop-drop}
+use lib.Seq.{drop-drop}
 use borrow.Author.Tests.{le-leb, lt-ltb, eq-eqb, ne-eqb}
 use Rattle.definition.specs.Book.{Pattern}
 use Rattle.definition.specs.Lists.{all}
@@ -16,8 +15,7 @@ use Rattle.definition.specs.Tree.{Block, Flow, match, equal, return}
 use Rattle.definition.specs.Read.{Reader, _>>=_, guarded, id-ok, place-ok, place-of, read-lets, read-places, read-pattern, read-arms, read-arm, read-flow, read-tagged, read-step, read-counted, read-framed, read-block}
 use Rattle.definition.specs.Tables.{signed}
 use Rattle.laws.specs.Answers.{and-false}
-use Rattle.laws.specs.Tests.{and}
-use Rattle.laws.specs.Turns.{all-append, all-map, front-stop}
+use Rattle.laws.specs.Turns.{all-map, front-stop}
 use Rattle.walk.specs.Found.{Found}
 use Rattle.walk.specs.Ends.{pattern-at}
 use Rattle.walk.proofs.Readers.{numbers-some, id-yes, id-no, block-more}
@@ -60,11 +58,6 @@ module _ (sub : Reader Block) (w : List ℕ) where
     step-found k so = then-found read-lets (read-tagged sub) (read-step sub) (λ u. refl) w g k so
 
 -- LETS AND PLACES: words that pass a test
-pub front-more : (q : ℕ → Bool) (l : List ℕ) (i : ℕ) → all q (take i l) ≡ true → i < length l → q (getD l i 0) ≡ true → all q (take (i + 1) l) ≡ true
-front-more q l i p h e =
-    let s : take (i + 1) l ≡ take i l ++ (getD l i 0 ∷ []) = rw add-one (take-suc l i 0 h) in
-    rw s (all-append q (take i l) (getD l i 0 ∷ []) ∙ and p (and e refl))
-
 pub lets-found : {Q : List ℕ → Type 0} (w : List ℕ) (n i : ℕ) → all id-ok (take i (drop 1 w)) ≡ true → Q (take i (drop 1 w)) → n ≡ getD w 0 0 → n < length w → i ≤ n → n ≤ i → Found Q (read-lets w) w (n + 1)
 unfolding read-lets
 lets-found [] n i p so e k h g = absurd (omega arith)

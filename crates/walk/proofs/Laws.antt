@@ -18,10 +18,10 @@ use Rattle.definition.specs.Lists.{all, compare-signed}
 use Rattle.definition.specs.Walk.{Hit, holds, placed-in}
 use Rattle.definition.specs.Read.{id-ok, read-lets, read-places, place-of}
 use Rattle.definition.specs.Tables.{signed}
-use Rattle.laws.specs.Tests.{and}
 use Rattle.laws.specs.Lending.{tail-part}
+use Rattle.laws.specs.Turns.{front-more}
 use Rattle.walk.proofs.Readers.{id-yes, id-no, at-one}
-use Rattle.walk.proofs.Finds.{front-more, lets-found, place-fine, places-found}
+use Rattle.walk.proofs.Finds.{lets-found, place-fine, places-found}
 use Rattle.walk.specs.declared.Stop.{Stop}
 use Rattle.walk.specs.declared.Seen.{Seen}
 use Rattle.walk.specs.Ends.{above, Good, Ends, ends, never, Held}

@@ -8,7 +8,7 @@ use Rattle.definition.specs.Tables.{rule-at}
 use Rattle.laws.specs.Greatest.{climb-slots}
 use Rattle.tables.specs.Held.{end-slot}
 use Rattle.choice.specs.Worth.{worth-from, pair-worth, end-worth}
-use Rattle.choice.proofs.Ends.{Passed, pass-starts, pass-asked, pass-over}
+use Rattle.laws.specs.Passing.{Passed, pass-starts, pass-asked, pass-over}
 use Rattle.choice.proofs.of_end.Statement.{statement}
 use Rattle.choice.proofs.of_end.Tie as tie
 

@@ -6,7 +6,7 @@ use borrow.Author.Needs.{needs}
 use Rattle.laws.specs.Greatest.{climb-slots}
 use Rattle.tables.specs.Held.{end-slot}
 use Rattle.choice.specs.Worth.{worth-from, end-worth, pairs-worth}
-use Rattle.choice.proofs.Ends.{Passed, pass-starts, pass-asked, pass-over}
+use Rattle.laws.specs.Passing.{Passed, pass-starts, pass-asked, pass-over}
 use Rattle.choice.proofs.of_pairs.Statement.{statement}
 use Rattle.choice.proofs.of_pairs.Tie as tie
 

@@ -1,4 +1,4 @@
--- A loop over the ends of a rule's pairs passes over an end that stood before: `most` is at least its worth already.
+-- A loop that looks for the greatest passes over what stood before: `most` is at least its worth already.
 use mathlib.Core.Path.{_≡_, ap, _∙_}
 use mathlib.Core.Logic.{_⊎_, inl, inr}
 use mathlib.Core.Bool.{true, false}
@@ -8,13 +8,13 @@ use native.Mathlib.Omega.{arith}
 use lib.Dec.{eqb}
 use borrow.Author.Tests.{eqb-true, eqb-false}
 use Rattle.definition.specs.Lists.{from, upto}
 use Rattle.laws.specs.Ascending.{stands-in, stands-member}
 use Rattle.laws.specs.Greatest.{Climbed, climb-starts, climb-turn}
 use Rattle.laws.specs.Members.{mem-map-of, from-bounds}
 use Rattle.laws.specs.Runs.{in-slots}
 use Rattle.laws.specs.Tests.{split}
 
--- `most` over the ends before k, at first `best`, is at least the worth of each of them
+-- `most` over the slots before k, at first `best`, is at least the worth of each of them
 pub record Passed (w g : ℕ → ℕ) (n best k most : ℕ) : Type 0 where
   pub climbed : Climbed w (λ k. map g (from k (n - k))) best k most
   pub over : (j : ℕ) → j < k → w (g j) ≤ most
