@@ -13,7 +13,7 @@ pub const SITE_WORDS: usize = 6;
 pub const RULE_WORDS: usize = 34;
 
 // A pattern's words.
-#[derive(Drop)]
+#[derive(Clone, Copy)]
 pub struct Shape {
     pub kind: u32,
     pub fields: u32,

@@ -9,9 +9,9 @@ use Rattle.std.proofs.Math.Dec.{compare_is_eq}
 use Rattle.definition.specs.Lists.{filter, any, if◌then◌else◌}
 use Rattle.laws.specs.Members.{any_at, any_from}
 use Rattle.definition.specs.Book.{Book, Pattern, rule, constrains, pattern_on, linked}
-use Rattle.definition.specs.Plan.{same_pattern, compare_patterns, tested, returns, return_steps, rank, ranked, outranks, patterns, asking, arms, block, asks_for, after, lets_of}
+use Rattle.definition.specs.Plan.{same_pattern, compare_patterns, tested, uses_of, returns, return_steps, rank, ranked, outranks, patterns, asking, arms, block, asks_for, after, lets_of}
 use Rattle.definition.specs.Tree.{Block, Flow, step, match, equal, returned, flow_returned, arms_returned}
-use Rattle.definition.specs.Scope.{Scope, inside}
+use Rattle.definition.specs.Scope.{Scope, inside, use_all}
 use Rattle.definition.specs.Choice.{Test, on, same, counts, counted, deferred, stays}
 use Rattle.theorems.specs.Partition.{no_higher}
 use Rattle.theorems.specs.Accepted.{Good}
@@ -38,7 +38,7 @@ ranked_total v above (j ∷ js) = rank_total v above j (ranked above js) ∙ ap 
 returned_steps : (b : Book) (st l : List ℕ) → returned (return_steps b st l) ≡ l
 unfolding return_steps returned
 returned_steps b st [] = refl
-returned_steps b st (i ∷ js) = ap (λ l. i ∷ l) (returned_steps b _ js)
+returned_steps b st (i ∷ js) = ap (λ l. i ∷ l) (returned_steps b (use_all b (uses_of (rule b i)) st).states js)
 
 -- the rules under the arms of some patterns are those that ask one of them
 module _ (b : Book) (sub : Scope → List ℕ → Block) (σ : Scope) (s : ℕ) (w : List ℕ) where

@@ -1,0 +1,34 @@
+-- The constraints of rule `i` that are passed agree with all of rule `j`.
+use Prim.Native.Nat.{ℕ, ◌-◌, ◌≤◌}
+use mathlib.Core.Path.{◌≡◌, sym, ap, ◌∙◌}
+use mathlib.Core.Bool.{true}
+use mathlib.Core.List.{map}
+use native.Mathlib.Omega.{arith}
+use borrow.Author.Tests.{not-true, not-false}
+use Rattle.checks.specs.Words.{rules_agree}
+use Rattle.definition.specs.Accept.{agrees_with}
+use Rattle.definition.specs.Book.{slots}
+use Rattle.definition.specs.Lists.{upto, all}
+use Rattle.definition.specs.Tables.{constraint_at, rule_at}
+use Rattle.laws.specs.Turns.{mapped_next, mapped_stop}
+use borrow.Author.Rules.{rules}
+use Rattle.checks.proofs.fields.rules_agree.Goals as goal
+
+pub returns-then-not-agrees_with : goal.returns-then-not-agrees_with
+unfolding rules_agree rule_at
+returns-then-not-agrees_with c =
+    let args = c.args in
+    sym (mapped_stop (agrees_with (rule_at slots args.rules.now args.j).constraints) (constraint_at slots args.rules.now args.i) c.wide-count.result c.loop-k.k c.loop-k-test.true (sym c.agrees_with.ensures ∙ c.if-not-agrees_with.true)) ∙ (ap (λ (n : ℕ). all (agrees_with (rule_at slots args.rules.now args.j).constraints) (map (constraint_at slots args.rules.now args.i) (upto n))) (c.wide-count.ensures ∙ c.rule_word.ensures))
+
+pub loop-k-preserved : goal.loop-k-preserved
+loop-k-preserved c =
+    let args = c.args in
+    let loop = c.loop-k in
+    (search rules, mapped_next (agrees_with (rule_at slots args.rules.now args.j).constraints) (constraint_at slots args.rules.now args.i) loop.k loop.invariant.1 (sym c.agrees_with.ensures ∙ c.if-not-agrees_with.false))
+
+pub returns : goal.returns
+unfolding rules_agree rule_at
+returns c =
+    let args = c.args in
+    let loop = c.loop-k in
+    let e : loop.k ≡ c.wide-count.result = omega arith in sym loop.invariant.1 ∙ ap (λ (n : ℕ). all (agrees_with (rule_at slots args.rules.now args.j).constraints) (map (constraint_at slots args.rules.now args.i) (upto n))) e ∙ (ap (λ (n : ℕ). all (agrees_with (rule_at slots args.rules.now args.j).constraints) (map (constraint_at slots args.rules.now args.i) (upto n))) (c.wide-count.ensures ∙ c.rule_word.ensures))

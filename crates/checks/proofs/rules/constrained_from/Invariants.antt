@@ -1,0 +1,17 @@
+-- What is left to look at decides as the whole does.
+use Prim.Native.Nat.{ℕ, ◌+◌, ◌-◌, ◌*◌, ◌≤◌}
+use mathlib.Core.Path.{◌≡◌, sym, ap, ◌∙◌}
+use mathlib.Core.List.{List, map}
+use native.Mathlib.Omega.{arith}
+use borrow.Author.Tests.{eq-eqb, ne_eqb}
+use Rattle.definition.specs.Book.{slots, is_on}
+use Rattle.definition.specs.Lists.{from, any}
+use Rattle.definition.specs.Tables.{rule_word, constraint_at}
+use Rattle.laws.specs.Asks.{in_range}
+use Rattle.checks.proofs.rules.constrained_from.Given as goal
+
+abbrev pub invariant-loop-j : goal.invariant-loop-j
+invariant-loop-j l = (l.first ≤ l.j) × (l.j ≤ l.count) × (any (is_on l.site) (map (constraint_at slots l.rules l.i) (from l.j (l.count - l.j))) ≡ any (is_on l.site) (map (constraint_at slots l.rules l.i) (from l.first (l.count - l.first))))
+
+abbrev pub decreases-loop-j : goal.decreases-loop-j
+decreases-loop-j l = l.count - l.j

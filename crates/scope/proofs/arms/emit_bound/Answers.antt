@@ -1,0 +1,28 @@
+-- The loop's invariant: the sites below x are passed as the definition's pass does it.
+use mathlib.Core.Path.{sym, ◌∙◌}
+use mathlib.Core.Logic.{⊎_elim}
+use Prim.Native.Nat.{◌-◌, ◌≤◌}
+use native.Mathlib.Omega.{arith}
+use Rattle.definition.specs.Book.{Book}
+use Rattle.definition.specs.Scope.{emitted, bound_by, emit_bound}
+use Rattle.tables.specs.Held.{shown}
+use Rattle.scope.specs.Drawn.{Drawn}
+use Rattle.scope.proofs.Sweeps.{Swept, sweep_starts, sweep_hit, sweep_skip, sweep_ends}
+use Rattle.scope.proofs.Binds.{bound_is}
+use Rattle.scope.proofs.arms.emit_bound.Goals as goal
+
+pub loop-x-init : goal.loop-x-init
+loop-x-init c = (omega arith, λ b d. sweep_starts _ _ _)
+
+pub is_bound-requires : goal.is_bound-requires
+is_bound-requires c = (c.requires, c.loop-x-test.true)
+
+pub set_ready-requires : goal.set_ready-requires
+set_ready-requires c = omega (arith, c.requires.few, c.loop-x-test.true)
+
+pub loop-x-preserved : goal.loop-x-preserved
+loop-x-preserved c = (omega (arith, c.loop-x-test.true), λ b d. ⊎_elim (λ w. rw w.3 (sweep_hit (c.loop-x.invariant.1 b d) (bound_is b _ _ _ _ (d.at _ c.loop-x-test.true) (sym c.is_bound.ensures ∙ w.0.taken)) w.2.ensures)) (λ w. rw w.1 (sweep_skip (c.loop-x.invariant.1 b d) (bound_is b _ _ _ _ (d.at _ c.loop-x-test.true) (sym c.is_bound.ensures ∙ w.0.left)))) c.if-is_bound.branch)
+
+pub returns : goal.returns
+unfolding emit_bound
+returns c = λ b d. rw d.size (sweep_ends (c.loop-x.invariant.1 b d) c.loop-x.invariant.0 c.loop-x-test.false)

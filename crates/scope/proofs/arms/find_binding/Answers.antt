@@ -1,0 +1,31 @@
+-- The loop's invariant: the first site that stands at the position is the first one from x on.
+use mathlib.Core.Path.{sym, ◌∙◌}
+use mathlib.Core.Logic.{⊎_elim}
+use Prim.Native.Nat.{◌-◌, ◌≤◌}
+use native.Mathlib.Omega.{arith}
+use Rattle.definition.specs.Book.{Book}
+use Rattle.tables.specs.Held.{shown}
+use Rattle.scope.specs.Drawn.{Drawn}
+use Rattle.scope.proofs.Binds.{bound_kind, stands_here, stands_elsewhere, not_bound, Seeking, seeking_starts, seeking_skip, seeking_hit, seeking_ends}
+use Rattle.scope.proofs.arms.find_binding.Goals as goal
+
+pub loop-x-init : goal.loop-x-init
+loop-x-init c = (omega arith, λ b d. seeking_starts d.size)
+
+pub is_bound-requires : goal.is_bound-requires
+is_bound-requires c = (c.requires, c.loop-x-test.true)
+
+pub bound_position-requires : goal.bound_position-requires
+bound_position-requires c = (c.requires.sited _ c.loop-x-test.true, bound_kind _ _ _ (sym c.is_bound.ensures ∙ c.if-is_bound.true))
+
+pub overflow_cast-result : goal.overflow_cast-result
+overflow_cast-result c = omega (arith, c.requires.few, c.loop-x-test.true)
+
+pub returns-then-bound_position-k : goal.returns-then-bound_position-k
+returns-then-bound_position-k c = λ b d. seeking_hit (c.loop-x.invariant.1 b d) c.loop-x-test.true (stands_here b _ _ _ _ (d.at _ c.loop-x-test.true) (sym c.is_bound.ensures ∙ c.if-is_bound.true) (sym c.bound_position.ensures ∙ c.if-bound_position-k.true))
+
+pub loop-x-preserved : goal.loop-x-preserved
+loop-x-preserved c = (omega (arith, c.loop-x-test.true), λ b d. seeking_skip (c.loop-x.invariant.1 b d) c.loop-x-test.true (⊎_elim (λ w. stands_elsewhere b _ _ _ _ (d.at _ c.loop-x-test.true) (λ q. omega (arith, w.1.ensures, w.2.left))) (λ w. not_bound b _ _ _ _ (d.at _ c.loop-x-test.true) (sym c.is_bound.ensures ∙ w.left)) c.if-is_bound.branch))
+
+pub returns : goal.returns
+returns c = λ b d. seeking_ends (c.loop-x.invariant.1 b d) c.loop-x-test.false

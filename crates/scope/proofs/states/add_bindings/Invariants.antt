@@ -1,0 +1,16 @@
+-- The loop's invariant: the sites below x are passed as the definition's pass does it.
+use mathlib.Core.Path.{sym, ◌∙◌}
+use mathlib.Core.Logic.{⊎_elim}
+use Prim.Native.Nat.{◌-◌, ◌≤◌}
+use native.Mathlib.Omega.{arith}
+use Rattle.definition.specs.Book.{Book}
+use Rattle.definition.specs.Scope.{available, ready, worked_out}
+use Rattle.scope.specs.Drawn.{Drawn}
+use Rattle.scope.proofs.Sweeps.{Swept, sweep_starts, sweep_hit, sweep_skip, sweep_ends}
+use Rattle.scope.proofs.states.add_bindings.Given as goal
+
+abbrev pub invariant-loop-x : goal.invariant-loop-x
+invariant-loop-x l = (l.x ≤ l.n) × ((b : Book) → Drawn l.n l.sites b → Swept (ready b) available l.x l.initial.next l.next)
+
+abbrev pub decreases-loop-x : goal.decreases-loop-x
+decreases-loop-x l = l.n - l.x

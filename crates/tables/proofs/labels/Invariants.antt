@@ -1,0 +1,13 @@
+-- The loop's invariant: the pairs from slot k on are joined.
+use Rattle.std.proofs.Common.{◌≡◌, ◌-◌, ◌≤◌, arith, rules}
+use Rattle.definition.specs.Book.{slots}
+use Rattle.definition.specs.Tables.{rule_word}
+use Rattle.tables.specs.Held.{Labels}
+use Rattle.tables.proofs.Slots.{label_turn, labels_now}
+use Rattle.tables.proofs.labels.Given as goal
+
+abbrev pub invariant-loop-k : goal.invariant-loop-k
+invariant-loop-k l = (l.k ≤ l.n) × ((l.n ≡ rule_word slots l.rules l.i 4) × ((l.n ≤ 4) × Labels l.rules l.i (l.n - l.k) l.l))
+
+abbrev pub decreases-loop-k : goal.decreases-loop-k
+decreases-loop-k l = l.k

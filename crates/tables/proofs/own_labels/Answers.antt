@@ -1,0 +1,18 @@
+-- The loop's invariant: the first k labels are the ends themselves.
+use Rattle.std.proofs.Common.{◌≡◌, ◌-◌, ◌≤◌, length, refl, ◌∙◌, arith, rules}
+use Rattle.laws.specs.Loops.{Filled, fill_starts, fill_turn}
+use Rattle.tables.specs.Held.{end_slot}
+use Rattle.tables.proofs.Slots.{own_label_each}
+use Rattle.tables.proofs.own_labels.Goals as goal
+
+pub loop-k-init : goal.loop-k-init
+loop-k-init c = (fill_starts _ _, (omega arith, refl))
+
+pub bounds-l-k : goal.bounds-l-k
+bounds-l-k c = let g = c.loop-k.invariant in omega (arith, c.loop-k-test.true, g.0.long, g.1.1)
+
+pub loop-k-preserved : goal.loop-k-preserved
+loop-k-preserved c = let g = c.loop-k.invariant in (fill_turn _ g.0 (omega (arith, c.loop-k-test.true, g.0.long, g.1.1)) c.rule_word.ensures, (omega (arith, c.loop-k-test.true), g.1.1))
+
+pub returns : goal.returns
+returns c = let g = c.loop-k.invariant in own_label_each _ _ (g.0.long ∙ g.1.1) (λ k h. g.0.so_far k (omega (arith, c.loop-k-test.false)))

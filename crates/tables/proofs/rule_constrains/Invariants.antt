@@ -1,0 +1,14 @@
+-- The loop's invariant: whether one of the constraints from slot k on is on s is whether any is.
+use Rattle.std.proofs.Common.{◌≡◌, ◌-◌, ◌≤◌, sym, ◌∙◌, arith, rules, eq-eqb, ne_eqb}
+use Rattle.definition.specs.Book.{slots, is_on, constrains}
+use Rattle.definition.specs.Lists.{any}
+use Rattle.definition.specs.Tables.{rule_at}
+use Rattle.laws.specs.Runs.{in_slots, any_skip, any_hit, any_end}
+use Rattle.tables.proofs.Slots.{constraints_from, on_slot, constrains_all}
+use Rattle.tables.proofs.rule_constrains.Given as goal
+
+abbrev pub invariant-loop-k : goal.invariant-loop-k
+invariant-loop-k l = (l.k ≤ l.n) × (any (is_on l.s) (constraints_from l.rules l.i l.n l.k) ≡ constrains (rule_at slots l.rules l.i) l.s)
+
+abbrev pub decreases-loop-k : goal.decreases-loop-k
+decreases-loop-k l = l.n - l.k
