@@ -9,7 +9,7 @@ ghost use Rattle.line.specs.Writes.{Writes, Indents, Spelled, Room, Deeper, numb
 pub const EMPTY: u32 = 65535;
 
 // The numbers of the steps and arms that something stands in, the outermost first; two for each of 9 blocks.
-#[derive(Drop)]
+#[derive(Clone, Copy)]
 pub struct Path {
     pub numbers: [u32; 18],
     pub depth: usize,

@@ -127,7 +127,7 @@ fn end(w: &[u32], path: Path, i: u32, text: &mut [u8], at: usize) -> Seen
 }
 
 // A block, in which at most `left` blocks stand one inside another.
-#[cycle(arm_arms_block_flow_pair_step_steps)]
+#[cycle(reading)]
 fn block(w: &[u32], path: Path, left: usize, text: &mut [u8], at: usize) -> Seen
     requires { Room path (2 * left) }
     ensures { Ends (steps_text (numbers_of path) 1) (read_block left w.now) w.now text.old at result text.new }
@@ -154,7 +154,7 @@ fn block(w: &[u32], path: Path, left: usize, text: &mut [u8], at: usize) -> Seen
 }
 
 // A count, and as many steps, numbered from 1.
-#[cycle(arm_arms_block_flow_pair_step_steps)]
+#[cycle(reading)]
 fn steps(w: &[u32], path: Path, left: usize, text: &mut [u8], at: usize) -> Seen
     requires { Room path (2 * left + 2) }
     ensures { Ends (steps_text (numbers_of path) 1) (read_counted (read_block left) w.now) w.now text.old at result text.new }
@@ -179,7 +179,7 @@ fn steps(w: &[u32], path: Path, left: usize, text: &mut [u8], at: usize) -> Seen
 }
 
 // Lets, and what they are for.
-#[cycle(arm_arms_block_flow_pair_step_steps)]
+#[cycle(reading)]
 fn step(w: &[u32], path: Path, i: u32, left: usize, text: &mut [u8], at: usize) -> Seen
     requires { Room path (2 * left + 2) }
     ensures { Ends (step_text (numbers_of path) i) (read_step (read_block left) w.now) w.now text.old at result text.new }
@@ -196,7 +196,7 @@ fn step(w: &[u32], path: Path, i: u32, left: usize, text: &mut [u8], at: usize) 
 }
 
 // A tag, and what it says.
-#[cycle(arm_arms_block_flow_pair_step_steps)]
+#[cycle(reading)]
 fn flow(w: &[u32], path: Path, i: u32, left: usize, text: &mut [u8], at: usize) -> Seen
     requires { Room path (2 * left + 2) }
     ensures { Ends (flow_text (numbers_of path) i) (read_tagged (read_block left) w.now) w.now text.old at result text.new }
@@ -218,7 +218,7 @@ fn flow(w: &[u32], path: Path, i: u32, left: usize, text: &mut [u8], at: usize) 
 }
 
 // An Equal: its tag, two sites and a block.
-#[cycle(arm_arms_block_flow_pair_step_steps)]
+#[cycle(reading)]
 fn pair(w: &[u32], path: Path, i: u32, left: usize, text: &mut [u8], at: usize) -> Seen
     requires { (3 ≤ length w.now) × Room path (2 * left + 2) }
     ensures { Ends (flow_text (numbers_of path) i) (read_flow (read_block left) 1 (drop 1 w.now)) w.now text.old at result text.new }
@@ -241,7 +241,7 @@ fn pair(w: &[u32], path: Path, i: u32, left: usize, text: &mut [u8], at: usize) 
 }
 
 // A Match: its tag, source, a count, and as many arms, numbered from 1.
-#[cycle(arm_arms_block_flow_pair_step_steps)]
+#[cycle(reading)]
 fn arms(w: &[u32], path: Path, i: u32, left: usize, text: &mut [u8], at: usize) -> Seen
     requires { (3 ≤ length w.now) × Room path (2 * left + 2) }
     ensures { Ends (flow_text (numbers_of path) i) (read_flow (read_block left) 0 (drop 1 w.now)) w.now text.old at result text.new }
@@ -268,7 +268,7 @@ fn arms(w: &[u32], path: Path, i: u32, left: usize, text: &mut [u8], at: usize) 
 }
 
 // An arm: its pattern and its block.
-#[cycle(arm_arms_block_flow_pair_step_steps)]
+#[cycle(reading)]
 fn arm(w: &[u32], path: Path, i: u32, left: usize, text: &mut [u8], at: usize) -> Seen
     requires { Room path (2 * left + 1) }
     ensures { Ends (arm_text (numbers_of path) i) (read_arm (read_block left) w.now) w.now text.old at result text.new }

@@ -242,7 +242,7 @@ fn end(w: &[u32]) -> Seen
 }
 
 // A block, in which at most `left` blocks stand one inside another.
-#[cycle(arm_arms_block_flow_pair_step_steps)]
+#[cycle(reading)]
 fn block(w: &[u32], kinds: &[u8], numbers: &[i32], identities: &[u32], left: usize) -> Seen
     ensures { Ends sites_in (stops (reading kinds.now numbers.now identities.now)) (read_block left w.now) w.now result }
 {
@@ -268,7 +268,7 @@ fn block(w: &[u32], kinds: &[u8], numbers: &[i32], identities: &[u32], left: usi
 }
 
 // A count, and as many steps.
-#[cycle(arm_arms_block_flow_pair_step_steps)]
+#[cycle(reading)]
 fn steps(w: &[u32], kinds: &[u8], numbers: &[i32], identities: &[u32], left: usize) -> Seen
     ensures { Ends sites_in (stops (reading kinds.now numbers.now identities.now)) (read_counted (read_block left) w.now) w.now result }
 {
@@ -294,7 +294,7 @@ fn steps(w: &[u32], kinds: &[u8], numbers: &[i32], identities: &[u32], left: usi
 }
 
 // Lets, and what they are for.
-#[cycle(arm_arms_block_flow_pair_step_steps)]
+#[cycle(reading)]
 fn step(w: &[u32], kinds: &[u8], numbers: &[i32], identities: &[u32], left: usize) -> Seen
     ensures { Ends step_names (step_stop (reading kinds.now numbers.now identities.now)) (read_step (read_block left) w.now) w.now result }
 {
@@ -310,7 +310,7 @@ fn step(w: &[u32], kinds: &[u8], numbers: &[i32], identities: &[u32], left: usiz
 }
 
 // A tag, and what it says.
-#[cycle(arm_arms_block_flow_pair_step_steps)]
+#[cycle(reading)]
 fn flow(w: &[u32], kinds: &[u8], numbers: &[i32], identities: &[u32], left: usize) -> Seen
     ensures { Ends flow_sites (flow_stop (reading kinds.now numbers.now identities.now)) (read_tagged (read_block left) w.now) w.now result }
 {
@@ -331,7 +331,7 @@ fn flow(w: &[u32], kinds: &[u8], numbers: &[i32], identities: &[u32], left: usiz
 }
 
 // An Equal: its tag, two sites and a block.
-#[cycle(arm_arms_block_flow_pair_step_steps)]
+#[cycle(reading)]
 fn pair(w: &[u32], kinds: &[u8], numbers: &[i32], identities: &[u32], left: usize) -> Seen
     requires { 3 ≤ length w.now }
     ensures { Ends flow_sites (flow_stop (reading kinds.now numbers.now identities.now)) (read_flow (read_block left) 1 (drop 1 w.now)) w.now result }
@@ -357,7 +357,7 @@ fn pair(w: &[u32], kinds: &[u8], numbers: &[i32], identities: &[u32], left: usiz
 }
 
 // A Match: its tag, source, a count, and as many arms.
-#[cycle(arm_arms_block_flow_pair_step_steps)]
+#[cycle(reading)]
 fn arms(w: &[u32], kinds: &[u8], numbers: &[i32], identities: &[u32], left: usize) -> Seen
     requires { 3 ≤ length w.now }
     ensures { Ends flow_sites (flow_stop (reading kinds.now numbers.now identities.now)) (read_flow (read_block left) 0 (drop 1 w.now)) w.now result }
@@ -388,7 +388,7 @@ fn arms(w: &[u32], kinds: &[u8], numbers: &[i32], identities: &[u32], left: usiz
 }
 
 // An arm: its pattern and its block.
-#[cycle(arm_arms_block_flow_pair_step_steps)]
+#[cycle(reading)]
 fn arm(w: &[u32], kinds: &[u8], numbers: &[i32], identities: &[u32], left: usize) -> Seen
     ensures { Ends arm_names (arm_stop (reading kinds.now numbers.now identities.now)) (read_arm (read_block left) w.now) w.now result }
 {

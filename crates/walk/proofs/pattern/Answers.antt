@@ -16,10 +16,10 @@ pub returns-then-not-pattern_ok : goal.returns-then-not-pattern_ok
 returns-then-not-pattern_ok c = record { is = pattern_bad c.args.w.now (omega arith) (sym (c.if-not-pattern_ok.true) ∙ c.pattern_ok.ensures) }
 
 pub returns-in_default : goal.returns-in_default
-returns-in_default c = record { is = pattern_none c.args.w.now (omega arith) (told_none (tail (read_places (get_or c.args.w.now 1 0)) c.args.w.now 3 c.places-seen.ensures) c.enum_told-1.given.1) }
+returns-in_default c = record { is = pattern_none c.args.w.now (omega arith) (told_none (tail (read_places (get_or c.args.w.now 1 0)) c.args.w.now 3 c.places-seen.ensures) c.in_default.is) }
 
 pub overflow_add-result : goal.overflow_add-result
-overflow_add-result c = omega (arith, (told_good (tail (read_places (get_or c.args.w.now 1 0)) c.args.w.now 3 c.places-seen.ensures) c.seen-1.given.1).within, length-drop 3 c.args.w.now)
+overflow_add-result c = omega (arith, (told_good (tail (read_places (get_or c.args.w.now 1 0)) c.args.w.now 3 c.places-seen.ensures) c.in-Tree.is).within, length-drop 3 c.args.w.now)
 
 pub returns : goal.returns
-returns c = record { is = pattern_good c.args.w.now _ _ _ (omega arith) (sym (c.if-not-pattern_ok.false) ∙ c.pattern_ok.ensures) (told_good (tail (read_places (get_or c.args.w.now 1 0)) c.args.w.now 3 c.places-seen.ensures) c.seen-1.given.1) }
+returns c = record { is = pattern_good c.args.w.now _ _ _ (omega arith) (sym (c.if-not-pattern_ok.false) ∙ c.pattern_ok.ensures) (told_good (tail (read_places (get_or c.args.w.now 1 0)) c.args.w.now 3 c.places-seen.ensures) c.in-Tree.is) }

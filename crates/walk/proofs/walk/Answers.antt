@@ -14,13 +14,13 @@ pub returns-then-kinds-identities : goal.returns-then-kinds-identities
 returns-then-kinds-identities c = differ_ids c.args.words.now c.args.kinds.now c.args.numbers.now c.args.identities.now (omega arith) c.if-kinds-identities.true
 
 pub returns-in_default : goal.returns-in_default
-returns-in_default c = no_tree c.args.words.now c.args.kinds.now c.args.numbers.now c.args.identities.now (omega arith) (omega arith) (told_none c.block-seen.ensures c.enum_told-1.given.1)
+returns-in_default c = no_tree c.args.words.now c.args.kinds.now c.args.numbers.now c.args.identities.now (omega arith) (omega arith) (told_none c.block-seen.ensures c.in_default.is)
 
 pub returns-then-wide-kinds : goal.returns-then-wide-kinds
-returns-then-wide-kinds c = lacks c.args.words.now c.args.kinds.now c.args.numbers.now c.args.identities.now (omega arith) (omega arith) (told_good c.block-seen.ensures c.seen-1.given.1) (omega (arith, c.wide.ensures))
+returns-then-wide-kinds c = lacks c.args.words.now c.args.kinds.now c.args.numbers.now c.args.identities.now (omega arith) (omega arith) (told_good c.block-seen.ensures c.in-Tree.is) (omega (arith, c.wide.ensures))
 
 pub returns-in-At : goal.returns-in-At
-returns-in-At c = sym (ap (λ s. told_as (answered (stop_of s))) c.stop-1.given.1) ∙ walks c.args.words.now c.args.kinds.now c.args.numbers.now c.args.identities.now (omega arith) (omega arith) (told_good c.block-seen.ensures c.seen-1.given.1) (omega (arith, c.wide.ensures))
+returns-in-At c = sym (ap (λ s. told_as (answered (stop_of s))) c.in-At.is) ∙ walks c.args.words.now c.args.kinds.now c.args.numbers.now c.args.identities.now (omega arith) (omega arith) (told_good c.block-seen.ensures c.in-Tree.is) (omega (arith, c.wide.ensures))
 
 pub returns-in-Nowhere : goal.returns-in-Nowhere
-returns-in-Nowhere c = sym (ap (λ s. told_as (answered (stop_of s))) c.enum_told-in-Nowhere-1.given.1) ∙ walks c.args.words.now c.args.kinds.now c.args.numbers.now c.args.identities.now (omega arith) (omega arith) (told_good c.block-seen.ensures c.seen-1.given.1) (omega (arith, c.wide.ensures))
+returns-in-Nowhere c = sym (ap (λ s. told_as (answered (stop_of s))) c.in-Nowhere.is) ∙ walks c.args.words.now c.args.kinds.now c.args.numbers.now c.args.identities.now (omega arith) (omega arith) (told_good c.block-seen.ensures c.in-Tree.is) (omega (arith, c.wide.ensures))
