@@ -1,28 +1,16 @@
 -- The cycle of `walk` meets its contracts: what its members have to show on their way, put together.
 use Rattle.walk.proofs.Laws.{tail, held_tail, told_none, told_good}
 use native.Mathlib.Omega.{arith}
-use Rattle.definition.specs.Read.{read_block, read_arm}
-use Rattle.walk.proofs.Readers.{sum_within, arm_none}
-use Rattle.walk.specs.Ends.{reading}
-use Rattle.walk.proofs.Finds.{arm_stops, match_bad}
-use Rattle.walk.proofs.Parts.{arm_good}
-use Rattle.walk.proofs.Turns.{ArmsAt, arms_begin, arms_fail, arms_turn, arms_done}
-use Prim.Native.Nat.{ℕ, ◌-◌}
-use Rattle.walk.proofs.Laws.{tail, told_none, told_good}
+use Rattle.definition.specs.Read.{read_block, read_arm, read_counted, read_tagged, read_step}
+use Rattle.walk.proofs.Readers.{sum_within, arm_none, flow_short, flow_other, pair_order, pair_high, pair_none, block_deep, block_empty, block_long, block_none, step_none, steps_empty}
+use Rattle.walk.specs.Ends.{reading, Ends}
+use Rattle.walk.proofs.Finds.{arm_stops, match_bad, inner_part, block_left, block_found, step_stops}
+use Rattle.walk.proofs.Parts.{arm_good, flow_is, pair_good, step_good}
+use Rattle.walk.proofs.Turns.{ArmsAt, arms_begin, arms_fail, arms_turn, arms_done, Steps, steps_begin, steps_stop, steps_turn, steps_done}
+use Prim.Native.Nat.{ℕ, ◌-◌, ◌<◌, ◌+◌, ◌*◌}
 use mathlib.Core.Path.{subst}
 use lib.ListN.{length-drop}
-use Rattle.definition.specs.Read.{read_block, read_counted}
 use Rattle.definition.specs.Walk.{sites_in, walk}
-use Rattle.walk.proofs.Readers.{flow_short, flow_other, pair_order, pair_high, pair_none, block_deep, block_empty, block_long, block_none}
-use Rattle.walk.specs.Ends.{Ends, reading}
-use Rattle.walk.proofs.Finds.{inner_part, block_left, block_found}
-use Rattle.walk.proofs.Parts.{flow_is, pair_good}
-use Prim.Native.Nat.{ℕ, ◌<◌, ◌+◌, ◌*◌}
-use Rattle.definition.specs.Read.{read_block, read_tagged, read_step}
-use Rattle.walk.proofs.Readers.{sum_within, step_none, steps_empty}
-use Rattle.walk.proofs.Finds.{step_stops}
-use Rattle.walk.proofs.Parts.{step_good}
-use Rattle.walk.proofs.Turns.{Steps, steps_begin, steps_stop, steps_turn, steps_done}
 use borrow.Author.Rules.{rules}
 use Rattle.walk.proofs.+reading.Goals as goal
 
@@ -42,7 +30,7 @@ pub arm-slice_bounds-block-end : goal.arm-slice_bounds-block-end
 arm-slice_bounds-block-end t c = omega (arith, (told_good c.pattern-seen.ensures c.in-Tree.is).within)
 
 pub arm-block-inner-requires : goal.arm-block-inner-requires
-arm-block-inner-requires t c = (omega (arith, c.requires.0), tt)
+arm-block-inner-requires t c = (omega (arith, c.decreases), tt)
 
 pub arm-returns-in_default-inner : goal.arm-returns-in_default-inner
 arm-returns-in_default-inner t c = record { is = arm_stops (read_block c.args.left) c.args.w.now (told_good c.pattern-seen.ensures c.in-Tree.is) (told_none (tail (read_block c.args.left) c.args.w.now _ c.block-inner.ensures) c.in_default-inner.is) }
@@ -84,7 +72,7 @@ pub arms-slice_bounds-arm-end : goal.arms-slice_bounds-arm-end
 arms-slice_bounds-arm-end t c = omega (arith, c.loop-i.invariant.loop.inside)
 
 pub arms-arm-seen-requires : goal.arms-arm-seen-requires
-arms-arm-seen-requires t c = (omega (arith, c.requires.0), tt)
+arms-arm-seen-requires t c = (omega (arith, c.decreases), tt)
 
 pub arms-returns-in_default : goal.arms-returns-in_default
 arms-returns-in_default t c = record { is = arms_fail (reading c.args.kinds.now c.args.numbers.now c.args.identities.now) (read_block c.args.left) c.loop-i.invariant c.loop-i-test.true (told_none (tail (read_arm (read_block c.args.left)) c.args.w.now _ c.arm-seen.ensures) c.in_default.is) }
@@ -96,7 +84,7 @@ pub arms-overflow_add-i : goal.arms-overflow_add-i
 arms-overflow_add-i t c = omega (arith, c.shared_slice_known-5-1.given 2)
 
 pub arms-loop-i-preserved : goal.arms-loop-i-preserved
-arms-loop-i-preserved t c = arms_turn (reading c.args.kinds.now c.args.numbers.now c.args.identities.now) (read_block c.args.left) c.loop-i.invariant c.loop-i-test.true _ _ _ _ _ _ _ (told_good (tail (read_arm (read_block c.args.left)) c.args.w.now _ c.arm-seen.ensures) c.in-Tree.is) (held_tail c.args.w.now _ c.fits2.ensures) c.greater-top.ensures c.entered-stop.ensures c.still-free.ensures
+arms-loop-i-preserved t c = arms_turn (reading c.args.kinds.now c.args.numbers.now c.args.identities.now) (read_block c.args.left) c.loop-i.invariant c.loop-i-test.true _ _ _ _ _ _ _ (told_good (tail (read_arm (read_block c.args.left)) c.args.w.now _ c.arm-seen.ensures) c.in-Tree.is) (held_tail c.args.w.now _ c.fits-held.ensures) c.greater-top.ensures c.entered-stop.ensures c.still-free.ensures
 
 pub arms-returns : goal.arms-returns
 arms-returns t c = record { is = arms_done (reading c.args.kinds.now c.args.numbers.now c.args.identities.now) (read_block c.args.left) c.loop-i.invariant c.loop-i-test.false }
@@ -111,7 +99,7 @@ pub block-returns-then-n-w : goal.block-returns-then-n-w
 block-returns-then-n-w t c = record { is = block_long c.args.left c.args.w.now c.if-left-eq0.false (omega arith) (omega (arith, c.wide-n.ensures)) }
 
 pub block-steps-seen-requires : goal.block-steps-seen-requires
-block-steps-seen-requires t c = (omega (arith, c.requires.0), tt)
+block-steps-seen-requires t c = (omega (arith, c.decreases), tt)
 
 pub block-returns-in_default : goal.block-returns-in_default
 block-returns-in_default t c = record { is = block_none c.args.left c.args.w.now c.if-left-eq0.false (omega arith) (told_none (subst (λ v. Ends sites_in (walk (reading c.args.kinds.now c.args.numbers.now c.args.identities.now)) ((read_counted (read_block (c.args.left - 1))) v) v c.steps-seen.result) (inner_part c.args.w.now c.wide-n.result c.wide-n.ensures) c.steps-seen.ensures) c.in_default.is) }
@@ -126,13 +114,13 @@ pub flow-returns-then-w-lt3 : goal.flow-returns-then-w-lt3
 flow-returns-then-w-lt3 t c = record { is = flow_short (read_block c.args.left) c.args.w.now (omega arith) }
 
 pub flow-arms-requires : goal.flow-arms-requires
-flow-arms-requires t c = (omega (arith, c.requires.0), omega arith)
+flow-arms-requires t c = (omega (arith, c.decreases), omega arith)
 
 pub flow-returns-then-tag-eq0 : goal.flow-returns-then-tag-eq0
 flow-returns-then-tag-eq0 t c = flow_is (reading c.args.kinds.now c.args.numbers.now c.args.identities.now) (read_block c.args.left) c.args.w.now 0 _ (omega arith) c.if-tag-eq0.true c.arms.ensures
 
 pub flow-pair-requires : goal.flow-pair-requires
-flow-pair-requires t c = (omega (arith, c.requires.0), omega arith)
+flow-pair-requires t c = (omega (arith, c.decreases), omega arith)
 
 pub flow-returns-then-tag-eq1 : goal.flow-returns-then-tag-eq1
 flow-returns-then-tag-eq1 t c = flow_is (reading c.args.kinds.now c.args.numbers.now c.args.identities.now) (read_block c.args.left) c.args.w.now 1 _ (omega arith) c.if-tag-eq1.true c.pair.ensures
@@ -153,7 +141,7 @@ pub pair-returns-then-b-gt-LAST : goal.pair-returns-then-b-gt-LAST
 pair-returns-then-b-gt-LAST t c = record { is = pair_high (read_block c.args.left) c.args.w.now (omega arith) (omega arith) }
 
 pub pair-block-seen-requires : goal.pair-block-seen-requires
-pair-block-seen-requires t c = (omega (arith, c.requires.0), tt)
+pair-block-seen-requires t c = (omega (arith, c.decreases), tt)
 
 pub pair-returns-in_default : goal.pair-returns-in_default
 pair-returns-in_default t c = record { is = pair_none (read_block c.args.left) c.args.w.now (omega arith) (told_none (tail (read_block c.args.left) c.args.w.now 3 c.block-seen.ensures) c.in_default.is) }
@@ -180,7 +168,7 @@ pub step-slice_bounds-flow-end : goal.step-slice_bounds-flow-end
 step-slice_bounds-flow-end t c = omega (arith, (told_good c.lets-seen.ensures c.in-Tree.is).within)
 
 pub step-flow-after-requires : goal.step-flow-after-requires
-step-flow-after-requires t c = (omega (arith, c.requires.0), tt)
+step-flow-after-requires t c = (omega (arith, c.decreases), tt)
 
 pub step-returns-in_default-after : goal.step-returns-in_default-after
 step-returns-in_default-after t c = record { is = step_stops (read_block c.args.left) c.args.w.now (told_good c.lets-seen.ensures c.in-Tree.is) (told_none (tail (read_tagged (read_block c.args.left)) c.args.w.now _ c.flow-after.ensures) c.in_default-after.is) }
@@ -210,7 +198,7 @@ pub steps-slice_bounds-step-end : goal.steps-slice_bounds-step-end
 steps-slice_bounds-step-end t c = omega (arith, c.loop-i.invariant.loop.inside)
 
 pub steps-step-seen-requires : goal.steps-step-seen-requires
-steps-step-seen-requires t c = (omega (arith, c.requires.0), tt)
+steps-step-seen-requires t c = (omega (arith, c.decreases), tt)
 
 pub steps-returns-in_default : goal.steps-returns-in_default
 steps-returns-in_default t c = record { is = steps_stop (reading c.args.kinds.now c.args.numbers.now c.args.identities.now) (read_block c.args.left) c.loop-i.invariant c.loop-i-test.true (told_none (tail (read_step (read_block c.args.left)) c.args.w.now _ c.step-seen.ensures) c.in_default.is) }

@@ -1,32 +1,20 @@
 -- The cycle of `walk` meets its contracts: what its members have to show on their way, put together.
 use Rattle.walk.proofs.Laws.{tail, held_tail, told_none, told_good}
 use native.Mathlib.Omega.{arith}
-use Rattle.definition.specs.Read.{read_block, read_arm}
-use Rattle.walk.proofs.Readers.{sum_within, arm_none}
-use Rattle.walk.specs.Ends.{reading}
-use Rattle.walk.proofs.Finds.{arm_stops, match_bad}
-use Rattle.walk.proofs.Parts.{arm_good}
-use Rattle.walk.proofs.Turns.{ArmsAt, arms_begin, arms_fail, arms_turn, arms_done}
-use Prim.Native.Nat.{ℕ, ◌-◌}
-use Rattle.walk.proofs.Laws.{tail, told_none, told_good}
+use Rattle.definition.specs.Read.{read_block, read_arm, read_counted, read_tagged, read_step}
+use Rattle.walk.proofs.Readers.{sum_within, arm_none, flow_short, flow_other, pair_order, pair_high, pair_none, block_deep, block_empty, block_long, block_none, step_none, steps_empty}
+use Rattle.walk.specs.Ends.{reading, Ends}
+use Rattle.walk.proofs.Finds.{arm_stops, match_bad, inner_part, block_left, block_found, step_stops}
+use Rattle.walk.proofs.Parts.{arm_good, flow_is, pair_good, step_good}
+use Rattle.walk.proofs.Turns.{ArmsAt, arms_begin, arms_fail, arms_turn, arms_done, Steps, steps_begin, steps_stop, steps_turn, steps_done}
+use Prim.Native.Nat.{ℕ, ◌-◌, ◌<◌, ◌+◌, ◌*◌}
 use mathlib.Core.Path.{subst}
 use lib.ListN.{length-drop}
-use Rattle.definition.specs.Read.{read_block, read_counted}
 use Rattle.definition.specs.Walk.{sites_in, walk}
-use Rattle.walk.proofs.Readers.{flow_short, flow_other, pair_order, pair_high, pair_none, block_deep, block_empty, block_long, block_none}
-use Rattle.walk.specs.Ends.{Ends, reading}
-use Rattle.walk.proofs.Finds.{inner_part, block_left, block_found}
-use Rattle.walk.proofs.Parts.{flow_is, pair_good}
-use Prim.Native.Nat.{ℕ, ◌<◌, ◌+◌, ◌*◌}
-use Rattle.definition.specs.Read.{read_block, read_tagged, read_step}
-use Rattle.walk.proofs.Readers.{sum_within, step_none, steps_empty}
-use Rattle.walk.proofs.Finds.{step_stops}
-use Rattle.walk.proofs.Parts.{step_good}
-use Rattle.walk.proofs.Turns.{Steps, steps_begin, steps_stop, steps_turn, steps_done}
 use Rattle.walk.proofs.+reading.Given as goal
 
 abbrev pub decreases-arm : goal.decreases-arm
-decreases-arm l = MEASURE 6 * a.1.1.1.1.0 + 1
+decreases-arm l = 6 * l.left + 1
 
 abbrev pub invariant-arms-loop-i : goal.invariant-arms-loop-i
 invariant-arms-loop-i l = ArmsAt (reading l.kinds l.numbers l.identities) (read_block l.left) l.w l.s l.n l.at l.top l.stop l.free l.i
@@ -35,22 +23,22 @@ abbrev pub decreases-arms-loop-i : goal.decreases-arms-loop-i
 decreases-arms-loop-i l = l.n - l.i
 
 abbrev pub decreases-arms : goal.decreases-arms
-decreases-arms l = MEASURE 6 * a.1.1.1.1.0 + 2
+decreases-arms l = 6 * l.left + 2
 
 abbrev pub decreases-block : goal.decreases-block
-decreases-block l = MEASURE 6 * a.1.1.1.1.0
+decreases-block l = 6 * l.left
 
 abbrev pub decreases-flow : goal.decreases-flow
-decreases-flow l = MEASURE 6 * a.1.1.1.1.0 + 3
+decreases-flow l = 6 * l.left + 3
 
 abbrev pub decreases-pair : goal.decreases-pair
-decreases-pair l = MEASURE 6 * a.1.1.1.1.0 + 1
+decreases-pair l = 6 * l.left + 1
 
 abbrev pub decreases-step : goal.decreases-step
-decreases-step l = MEASURE 6 * a.1.1.1.1.0 + 4
+decreases-step l = 6 * l.left + 4
 
 abbrev pub decreases-steps : goal.decreases-steps
-decreases-steps l = MEASURE 6 * a.1.1.1.1.0 + 5
+decreases-steps l = 6 * l.left + 5
 
 abbrev pub invariant-steps-loop-i : goal.invariant-steps-loop-i
 invariant-steps-loop-i l = Steps (reading l.kinds l.numbers l.identities) (read_block l.left) l.w l.n l.at l.top l.stop l.i
