@@ -2,7 +2,7 @@
 ghost use Rattle.std.specs.Prelude.{◌≡◌, ◌++◌, ◌∷◌, []};
 ghost use Rattle.definition.specs.Tables.{signed};
 ghost use Rattle.definition.specs.Read.{place_of};
-ghost use Rattle.definition.specs.Listing.{decimal, sign, magnitude as type_size, signed_decimal, degrees, kind_text, place_text, points, start, let_line, match_line, equal_line, return_line};
+ghost use Rattle.definition.specs.Listing.{decimal, sign, magnitude, signed_decimal, degrees, kind_text, place_text, points, start, let_line, match_line, equal_line, return_line};
 ghost use Rattle.line.specs.Writes.{Writes, Indents, Spelled, Room, Deeper, numbers_of, places_head, arm_head};
 
 // The word of an empty place.
@@ -94,7 +94,7 @@ fn put_sign(w: u32, text: &mut [u8], at: usize) -> usize
 }
 
 fn magnitude(w: u32) -> u32
-    ensures { result ≡ type_size (signed w) }
+    ensures { result ≡ magnitude (signed w) }
 {
     if w < 2147483648 {
         return w;

@@ -10,6 +10,7 @@ use Rattle.scope.specs.Drawn.{Drawn}
 use Rattle.scope.proofs.Sweeps.{Swept, sweep_starts, sweep_hit, sweep_skip, sweep_ends}
 use Rattle.scope.proofs.Binds.{bound_is}
 use Rattle.scope.proofs.arms.emit_bound.Goals as goal
+use Rattle.scope.proofs.arms.emit_bound.Goals.{then-is_bound, else-is_bound}
 
 pub loop-x-init : goal.loop-x-init
 loop-x-init c = (omega arith, λ b d. sweep_starts _ _ _)
@@ -21,7 +22,9 @@ pub set_ready-requires : goal.set_ready-requires
 set_ready-requires c = omega (arith, c.requires.few, c.loop-x-test.true)
 
 pub loop-x-preserved : goal.loop-x-preserved
-loop-x-preserved c = (omega (arith, c.loop-x-test.true), λ b d. ⊎_elim (λ w. rw w.3 (sweep_hit (c.loop-x.invariant.1 b d) (bound_is b _ _ _ _ (d.at _ c.loop-x-test.true) (sym c.is_bound.ensures ∙ w.0.taken)) w.2.ensures)) (λ w. rw w.1 (sweep_skip (c.loop-x.invariant.1 b d) (bound_is b _ _ _ _ (d.at _ c.loop-x-test.true) (sym c.is_bound.ensures ∙ w.0.left)))) c.if-is_bound.branch)
+loop-x-preserved c = (omega (arith, c.loop-x-test.true), λ b d. elim c.if-is_bound.branch [
+    then-is_bound w ↦ rw w.next-is (sweep_hit (c.loop-x.invariant.1 b d) (bound_is b _ _ _ _ (d.at _ c.loop-x-test.true) (sym c.is_bound.ensures ∙ w.if-is_bound.true)) w.set_ready.ensures)
+  | else-is_bound w ↦ rw w.next-is (sweep_skip (c.loop-x.invariant.1 b d) (bound_is b _ _ _ _ (d.at _ c.loop-x-test.true) (sym c.is_bound.ensures ∙ w.if-is_bound.false))) ])
 
 pub returns : goal.returns
 unfolding emit_bound

@@ -13,7 +13,7 @@ use Rattle.scope.proofs.Uses.{placed_fits, placed_few, Turning, turning_starts, 
 use Rattle.scope.proofs.lets.+use_expr.Given as goal
 
 abbrev pub decreases-use_expr : goal.decreases-use_expr
-decreases-use_expr l = MEASURE a.1.1.1.0
+decreases-use_expr l = l.x
 
 abbrev pub invariant-loop-k : goal.invariant-loop-k
 invariant-loop-k l = (l.k ≤ l.sources) × ((length l.room ≡ length l.initial.room) × ((l.lets + low l.scope.states ≤ most) × ((l.at ≤ length l.room + 1) × ((b : Book) → Drawn l.n l.sites b → (f : ℕ) → l.x ≤ f → Turning (use_below f b) (site_at l.sites l.x).sources l.k l.initial.scope l.initial.room l.at-2 l.scope l.at l.lets l.room))))

@@ -13,15 +13,14 @@ use Rattle.scope.proofs.Uses.{placed_fits, placed_few, placed_site, placed_then,
 use borrow.Author.Rules.{rules}
 use Rattle.scope.proofs.lets.use_rule.Goals as goal
 
--- the scope that came has 252 states
-long : (c : tie.Start invariant-loop decreases-loop) → length c.args.scope.states ≡ most
-long c = search rules
-
 pub impure_count-count-requires : goal.impure_count-count-requires
 impure_count-count-requires c = c.requires.1.0.held
 
 pub loop-k-init : goal.loop-k-init
-loop-k-init c = (omega arith, (refl, (omega (arith, low_few c.args.scope (long c)), (c.requires.1.1, λ b d. turning_starts _ _ _ _ _ c.requires.1.1))))
+loop-k-init c =
+    -- the scope that came has 252 states
+    let long : length c.args.scope.states ≡ most = search rules in
+    (omega arith, (refl, (omega (arith, low_few c.args.scope long), (c.requires.1.1, λ b d. turning_starts _ _ _ _ _ c.requires.1.1))))
 
 pub impure-x-requires : goal.impure-x-requires
 impure-x-requires c = (c.requires.1.0.held, (omega (arith, c.impure_count-count.ensures.0, c.loop-k-test.true)))

@@ -1,0 +1,16 @@
+-- The records passed have no stray byte.
+use Prim.Native.Nat.{ℕ, ◌-◌, ◌≤◌}
+use mathlib.Core.Path.{◌≡◌, sym, ap, ◌∙◌}
+use mathlib.Core.Bool.{true}
+use native.Mathlib.Omega.{arith}
+use borrow.Author.Tests.{not-true, not-false}
+use Rattle.definition.specs.Bytes.{site_gap, site_gaps}
+use Rattle.definition.specs.Lists.{upto, all}
+use Rattle.laws.specs.Turns.{upto_next, upto_stop}
+use Rattle.book.proofs.records.site_gaps.Given as goal
+
+abbrev pub invariant-loop-s : goal.invariant-loop-s
+invariant-loop-s l = (l.s ≤ l.count) × (all (site_gap l.book) (upto l.s) ≡ true)
+
+abbrev pub decreases-loop-s : goal.decreases-loop-s
+decreases-loop-s l = l.count - l.s

@@ -1,0 +1,17 @@
+-- The loop's invariant: the near ones of the first k rules stand in front, and the others of them have raised the bar.
+use mathlib.Core.Path.{refl, sym, ap, ◌∙◌}
+use Prim.Native.Nat.{◌-◌}
+use native.Mathlib.Omega.{arith}
+use lib.ListN.{length}
+use Rattle.tables.specs.Held.{rank_of}
+use Rattle.order.proofs.Asks.{held_at, Lacked, lack_starts, lack_turn, lack_ends}
+use Rattle.choice.specs.Worth.{is_near}
+use Rattle.choice.proofs.Answers.{named_at}
+use Rattle.choice.proofs.Nearby.{Sharing, share_starts, share_take, share_skip, share_ends, near_yes, near_no}
+use Rattle.choice.proofs.sharing.Given as goal
+
+abbrev pub invariant-loop-k : goal.invariant-loop-k
+invariant-loop-k l = Sharing (is_near l.rules l.marks) l.part l.k l.n l.ids × Lacked (is_near l.rules l.marks) (rank_of l.rules) l.part l.k l.bar
+
+abbrev pub decreases-loop-k : goal.decreases-loop-k
+decreases-loop-k l = length l.part - l.k

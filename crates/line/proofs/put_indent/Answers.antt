@@ -1,0 +1,19 @@
+-- `put_indent` meets its contract: two spaces for each number before k.
+use native.Mathlib.Omega.{arith}
+use mathlib.Core.Path.{◌≡◌}
+use mathlib.Core.List.{List}
+use Prim.Native.Nat.{ℕ, ◌≤◌, ◌-◌}
+use lib.ListN.{length}
+use Rattle.definition.specs.Listing.{text as quoted}
+use Rattle.line.proofs.Writing.{Each, each_starts, each_turn, indents}
+use borrow.Author.Rules.{rules}
+use Rattle.line.proofs.put_indent.Goals as goal
+
+pub loop-k-init : goal.loop-k-init
+loop-k-init c = (λ p e. each_starts _ _ _ _, (omega arith, omega arith))
+
+pub loop-k-preserved : goal.loop-k-preserved
+loop-k-preserved c = (λ p e. each_turn (c.loop-k.invariant.0 p e) (omega (arith, e, c.loop-k-test.true)) c.put_text-pos.ensures, (omega arith, search rules))
+
+pub returns : goal.returns
+returns c = indents c.loop-k.invariant.0 c.loop-k-test.false

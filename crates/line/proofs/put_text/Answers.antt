@@ -1,0 +1,18 @@
+-- `put_text` meets its contract: the bytes before k are written.
+use native.Mathlib.Omega.{arith}
+use mathlib.Core.Path.{◌≡◌}
+use mathlib.Core.List.{◌∷◌, []}
+use Prim.Native.Nat.{◌≤◌, ◌-◌}
+use lib.ListN.{length}
+use Rattle.line.proofs.Writing.{Each, each_starts, each_turn, bytes_end}
+use borrow.Author.Rules.{rules}
+use Rattle.line.proofs.put_text.Goals as goal
+
+pub loop-k-init : goal.loop-k-init
+loop-k-init c = (each_starts _ _ _ _, (omega arith, omega arith))
+
+pub loop-k-preserved : goal.loop-k-preserved
+loop-k-preserved c = (each_turn c.loop-k.invariant.0 c.loop-k-test.true c.put_byte-pos.ensures, (omega arith, search rules))
+
+pub returns : goal.returns
+returns c = bytes_end c.loop-k.invariant.0 c.loop-k-test.false
