@@ -13,7 +13,7 @@ pub const EMITTED: u8 = 2;
 
 pub const MATCHED: u8 = 3;
 
-#[derive(Drop)]
+#[derive(Clone, Copy)]
 pub struct Scope {
     // Entry x: the state of site x.
     pub states: [u8; 252],

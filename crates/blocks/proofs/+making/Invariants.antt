@@ -1,0 +1,46 @@
+-- The cycle of blocks and steps meets its contracts: `sort`, `make_steps`, `make_control_flow`, `make_match`, `make_equal` and `make_arm`. The nesting that is left falls.
+use mathlib.Core.Path.{sym, ◌∙◌, refl}
+use Prim.Native.Nat.{◌-◌, ℕ, ◌+◌, ◌*◌, ◌<◌}
+use native.Mathlib.Omega.{arith}
+use lib.ListN.{length}
+use lib.Seq.{length-take-le}
+use Rattle.laws.specs.Lending.{tail_part, tail_length}
+use Rattle.room.proofs.Written.{wrote_one, wrote_then, wrote_fits}
+use Rattle.blocks.proofs.Scoping.{scoped_inside, some_scope, some_stands, scoped_used, scoped_matching, scoped_joining, entered_match}
+use Rattle.blocks.proofs.Ready.{drawn, parts, planning_in, planning_on, few_rules, cut_part}
+use Rattle.blocks.proofs.Making.{arm_made, equal_made, step_match, step_equal}
+use Rattle.blocks.proofs.ArmsLoop.{ArmsGoing, arms_start, arms_turn, match_made}
+use Rattle.laws.specs.Tests.{positive}
+use Rattle.blocks.proofs.StepsLoop.{StepsGoing, steps_start, steps_stop, steps_end, front_part, steps_turn, block_made}
+use Rattle.blocks.proofs.+making.Given as goal
+
+abbrev pub decreases-make_arm : goal.decreases-make_arm
+decreases-make_arm l = 5 * l.left + 0
+
+abbrev pub decreases-make_control_flow : goal.decreases-make_control_flow
+decreases-make_control_flow l = 5 * l.left + 2
+
+abbrev pub decreases-make_equal : goal.decreases-make_equal
+decreases-make_equal l = 5 * l.left + 1
+
+abbrev pub invariant-make_match-loop-lo : goal.invariant-make_match-loop-lo
+invariant-make_match-loop-lo l = ArmsGoing l.size.sites l.size.rules l.sites l.rules l.left l.s l.scope l.initial.order l.initial.room l.initial.pos l.order l.lo l.arms l.pos l.room
+
+abbrev pub decreases-make_match-loop-lo : goal.decreases-make_match-loop-lo
+decreases-make_match-loop-lo l = length l.order - l.lo
+
+abbrev pub decreases-make_match : goal.decreases-make_match
+decreases-make_match l = 5 * l.left + 1
+
+abbrev pub invariant-make_steps-loop-taken : goal.invariant-make_steps-loop-taken
+invariant-make_steps-loop-taken l = StepsGoing l.size.sites l.size.rules l.sites l.rules l.left l.initial.scope l.initial.order l.initial.room l.initial.at l.scope l.order l.taken l.count l.at l.room
+
+abbrev pub decreases-make_steps-loop-taken : goal.decreases-make_steps-loop-taken
+decreases-make_steps-loop-taken l = length l.order - l.taken
+
+abbrev pub decreases-make_steps : goal.decreases-make_steps
+decreases-make_steps l = 5 * l.left + 3
+
+abbrev pub decreases-sort : goal.decreases-sort
+decreases-sort l = 5 * l.left + 4
+
