@@ -1,0 +1,13 @@
+-- `all_rules` meets its contract: the order is counted up.
+use mathlib.Core.Path.{◌≡◌, refl}
+use Prim.Native.Nat.{◌-◌, ◌≤◌}
+use native.Mathlib.Omega.{arith}
+use lib.ListN.{length}
+use Rattle.laws.specs.Loops.{Filled, fill_starts, fill_turn}
+use Rattle.plan.proofs.all_rules.Given as goal
+
+abbrev pub invariant-loop-i : goal.invariant-loop-i
+invariant-loop-i l = Filled (λ k. k) l.i l.initial.order l.order × ((l.i ≤ 252) × (length l.initial.order ≡ 252))
+
+abbrev pub decreases-loop-i : goal.decreases-loop-i
+decreases-loop-i l = 252 - l.i
