@@ -1,4 +1,6 @@
 // A book on the line, read into word tables or refused (document 01, "The book" and "Refusal numbers").
+#![tactic(auto)]
+
 mod records;
 
 ghost use Rattle.std.specs.Prelude.{◌≡◌, ◌&&◌, List, ℕ, ◌+◌, ◌*◌, ◌/◌, ◌≤◌, length, take};

@@ -22,7 +22,6 @@ use Rattle.laws.specs.Orders.{lt_is, eq_is}
 use Rattle.laws.specs.Tests.{split}
 use Rattle.laws.specs.Winners.{gt_is, champion_is}
 use Rattle.theorems.specs.Choices.{Known, tests_known, candidate_parts, is_listed}
-use Rattle.theorems.specs.States.{at}
 use Rattle.choice.specs.Worth.{last_code, code_room, code, key_of, worth, of_code, decoded, shown_best}
 
 -- CODES

@@ -19,7 +19,6 @@ use Rattle.laws.specs.Greatest.{greatest, greatest_over, greatest_under, greates
 use Rattle.laws.specs.Members.{filter_in, from_bounds, mem_map_of}
 use Rattle.laws.specs.Tests.{split}
 use Rattle.theorems.specs.Choices.{Known, known_listed, tests_known}
-use Rattle.theorems.specs.LetLists.{low}
 use Rattle.theorems.specs.Refusals.{sites_length, rule_is}
 use Rattle.tables.specs.Held.{Words, rank_of, site_slot, end_slot, Named}
 use Rattle.order.specs.Parts.{Names, rule_tests, lack_top, passes_top}

@@ -1,4 +1,6 @@
 // The best test of a part of the order.
+#![tactic(auto)]
+
 pub mod tests;
 
 ghost use Rattle.std.specs.Prelude.{◌≡◌, map, ◌*◌, ◌<◌, max};

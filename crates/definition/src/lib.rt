@@ -1,2 +1,4 @@
+#![tactic(auto)]
+
 // Document 01 as definitions: see specs/.
 pub fn nothing() {}

@@ -1,4 +1,6 @@
 // Refusals 1 to 3: the length of a book, the sums of its blocks, and their frames with the filler bytes.
+#![tactic(auto)]
+
 pub mod fields;
 
 ghost use Rattle.std.specs.Prelude.{◌≡◌, ◌+◌, ◌*◌, ◌/◌, ◌<◌, ◌≤◌, min, [], ◌∷◌, length};

@@ -1,4 +1,6 @@
 // Bytes, numbers and lines, written into lent text one behind the other until it is full.
+#![tactic(auto)]
+
 ghost use Rattle.std.specs.Prelude.{◌≡◌, ◌++◌, ◌∷◌, []};
 ghost use Rattle.definition.specs.Tables.{signed};
 ghost use Rattle.definition.specs.Read.{place_of};

@@ -1,5 +1,7 @@
 // The listing of a tree, for people. The words are not trusted: every one of the root block is looked at, and the text is
 // written on the same way.
+#![tactic(auto)]
+
 ghost use Rattle.std.specs.Prelude.{◌≡◌, ◌+◌, ◌*◌, ◌≤◌, length, drop, replicate};
 ghost use Rattle.definition.specs.Lists.{flat};
 ghost use Rattle.definition.specs.Read.{place_of, place_ok as place_fine, read_lets, read_places, read_pattern, read_flow, read_arm, read_tagged, read_step, read_counted, read_block};

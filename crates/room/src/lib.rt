@@ -1,4 +1,6 @@
 // Words written into lent room, one behind the other, until it is full.
+#![tactic(auto)]
+
 ghost use Rattle.std.specs.Prelude.{◌+◌, ◌≤◌, length};
 ghost use Rattle.room.specs.Wrote.{Put};
 

@@ -1,5 +1,7 @@
 // The scope of a block: the state of every site and the classes joined on the path. It is handed on by value, so that a nested block
 // starts from its parent's and nothing comes back. A site table is lent with the number n of its sites.
+#![tactic(auto)]
+
 pub mod arms;
 pub mod classes;
 pub mod lets;

@@ -1,4 +1,6 @@
 // Disjoint sets of the ids 0 to 251, in a store that each call takes and hands back.
+#![tactic(auto)]
+
 ghost use Rattle.std.specs.Prelude.{◌≡◌, map, ◌≤◌, ◌<◌};
 ghost use Rattle.definition.specs.Sets.{no_sets, enter, join};
 ghost use Rattle.laws.specs.Loops.{relabel};

@@ -7,7 +7,6 @@ use Rattle.definition.specs.Lists.{◌is◌, upto, any}
 use Rattle.definition.specs.Tables.{rule_word, pair_at, rule_at}
 use Rattle.laws.specs.Members.{any_at, mem_map, mem_from, from_bounds, mem_map_of}
 use Rattle.laws.specs.Tests.{split, clash, one_of, neither}
-use Rattle.theorems.specs.States.{at}
 use Rattle.tables.specs.Held.{is_end, end_slot}
 
 module _ (x : ℕ) where

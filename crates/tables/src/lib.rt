@@ -1,4 +1,6 @@
 // A book's tables of words, read field by field: 6 words a site, 34 a rule.
+#![tactic(auto)]
+
 ghost use Rattle.std.specs.Prelude.{◌≡◌, ◌+◌, ◌*◌, ◌<◌, ◌≤◌, map, length, slice_index};
 ghost use Rattle.definition.specs.Lists.{same_number};
 ghost use Rattle.definition.specs.Book.{slots, constrains, pattern_on, linked};

@@ -7,7 +7,7 @@ use mathlib.Core.List.{[], Memᴰ}
 use Rattle.std.proofs.Math.Option.{Option, none, some}
 use Rattle.std.proofs.Math.ListN.{length}
 use Rattle.definition.specs.Lists.{upto}
-use Rattle.definition.specs.Book.{Book, slots, rule}
+use Rattle.definition.specs.Book.{Book, slots}
 use Rattle.definition.specs.Bytes.{book_from, book_refusal}
 use Rattle.definition.specs.Scope.{root}
 use Rattle.definition.specs.Choice.{at_least}

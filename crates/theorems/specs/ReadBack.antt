@@ -14,7 +14,7 @@ use Rattle.laws.specs.Tests.{split, both}
 use Rattle.definition.specs.Book.{Pattern}
 use Rattle.definition.specs.Accept.{pattern_ok}
 use Rattle.definition.specs.Tree.{Block, Flow, Arms, end, step, match, equal, return, no_arms, arm, word, place_word, step_count, arm_count, step_words, flow_words, arm_words, words, let_words, pattern_words, block_words}
-use Rattle.definition.specs.Read.{Reader, number, numbers, id_ok, place_of, place_ok, read_lets, read_places, read_pattern, read_arm, read_arms, read_flow, read_tagged, read_step, read_steps, read_counted, read_framed, read_block}
+use Rattle.definition.specs.Read.{Reader, numbers, id_ok, place_of, place_ok, read_lets, read_places, read_pattern, read_arm, read_arms, read_flow, read_tagged, read_step, read_steps, read_counted, read_framed, read_block}
 use Rattle.definition.specs.Tables.{signed}
 
 -- TREES THAT ARE READ BACK: the reader's tests, on a tree. A number fits 32 bits

@@ -12,7 +12,7 @@ use Rattle.definition.specs.Lists.{if◌then◌else◌, all}
 use Rattle.laws.specs.Tests.{split, both, clash}
 use Rattle.laws.specs.Members.{all_at, any_at, filter_in, filter_from}
 use Rattle.laws.specs.Signed.{leℤ_refl, leℤ_trans, leℤ_other}
-use Rattle.definition.specs.Book.{Book, Rule, Constraint, Pattern, site, rule, pattern_on, constrains, linked, is_on}
+use Rattle.definition.specs.Book.{Book, Rule, Constraint, Pattern, rule, pattern_on, constrains, linked, is_on}
 use Rattle.definition.specs.Plan.{patterns, asking, arms, rank, ranked, outranks, return_steps, returns, asks_for}
 use Rattle.definition.specs.Tree.{Block}
 use Rattle.definition.specs.Walk.{Hit, Reading, first_hit, hits, arm_hits, holds, agree, matches, constraint_holds, pair_holds}

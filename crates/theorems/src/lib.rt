@@ -1,4 +1,6 @@
 // What the tree of every accepted book obeys: specs/Demands.antt states it. And what a listing tells: Decimal and FitsRead.
+#![tactic(auto)]
+
 ghost use Rattle.theorems.specs.Proved.{demands};
 ghost use Rattle.theorems.specs.BytesToAnswer.{end_to_end};
 ghost use Rattle.theorems.specs.Decimal.{signed_back, no_minus_zero};

@@ -1,5 +1,7 @@
 // Walks the words of a tree under a reading. The words are not trusted: every one of the root block is looked at, and
 // the walk's answer is found on the same way.
+#![tactic(auto)]
+
 ghost use Rattle.std.specs.Prelude.{◌≡◌, true, false, ◌&&◌, not, List, ℕ, ◌+◌, ◌<◌, ◌≤◌, max, length, get_or, drop, pos, eqb};
 ghost use Rattle.definition.specs.Lists.{same_number, if◌then◌else◌};
 ghost use Rattle.definition.specs.Accept.{pattern_ok};

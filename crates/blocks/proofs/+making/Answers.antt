@@ -1,18 +1,15 @@
 -- The cycle of blocks and steps meets its contracts: `sort`, `make_steps`, `make_control_flow`, `make_match`, `make_equal` and `make_arm`. The nesting that is left falls.
 use mathlib.Core.Path.{sym, ◌∙◌, refl}
-use Prim.Native.Nat.{◌-◌, ℕ, ◌+◌, ◌*◌, ◌<◌}
 use native.Mathlib.Omega.{arith}
-use lib.ListN.{length}
 use lib.Seq.{length-take-le}
 use Rattle.laws.specs.Lending.{tail_part, tail_length}
 use Rattle.room.proofs.Written.{wrote_one, wrote_then, wrote_fits}
 use Rattle.blocks.proofs.Scoping.{scoped_inside, some_scope, some_stands, scoped_used, scoped_matching, scoped_joining, entered_match}
 use Rattle.blocks.proofs.Ready.{drawn, parts, planning_in, planning_on, few_rules, cut_part}
 use Rattle.blocks.proofs.Making.{arm_made, equal_made, step_match, step_equal}
-use Rattle.blocks.proofs.ArmsLoop.{ArmsGoing, arms_start, arms_turn, match_made}
+use Rattle.blocks.proofs.ArmsLoop.{arms_start, arms_turn, match_made}
 use Rattle.laws.specs.Tests.{positive}
-use Rattle.blocks.proofs.StepsLoop.{StepsGoing, steps_start, steps_stop, steps_end, front_part, steps_turn, block_made}
-use borrow.Author.Rules.{rules}
+use Rattle.blocks.proofs.StepsLoop.{steps_start, steps_stop, steps_end, front_part, steps_turn, block_made}
 use Rattle.blocks.proofs.+making.Goals as goal
 
 pub make_arm-least_pattern-shape-requires : goal.make_arm-least_pattern-shape-requires
@@ -188,4 +185,3 @@ sort-put_word-requires-2 t c = omega (arith, c.requires.inside, (wrote_then (wro
 
 pub sort-returns : goal.sort-returns
 sort-returns t c = block_made c.put_word-first.ensures c.put_word-start.ensures c.make_steps-steps.ensures c.put_returns-end.ensures c.put_word.ensures c.words_after.ensures c.put_word-2.ensures
-

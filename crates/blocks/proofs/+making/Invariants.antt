@@ -1,17 +1,8 @@
 -- The cycle of blocks and steps meets its contracts: `sort`, `make_steps`, `make_control_flow`, `make_match`, `make_equal` and `make_arm`. The nesting that is left falls.
-use mathlib.Core.Path.{sym, ◌∙◌, refl}
-use Prim.Native.Nat.{◌-◌, ℕ, ◌+◌, ◌*◌, ◌<◌}
-use native.Mathlib.Omega.{arith}
+use Prim.Native.Nat.{◌-◌, ◌+◌, ◌*◌}
 use lib.ListN.{length}
-use lib.Seq.{length-take-le}
-use Rattle.laws.specs.Lending.{tail_part, tail_length}
-use Rattle.room.proofs.Written.{wrote_one, wrote_then, wrote_fits}
-use Rattle.blocks.proofs.Scoping.{scoped_inside, some_scope, some_stands, scoped_used, scoped_matching, scoped_joining, entered_match}
-use Rattle.blocks.proofs.Ready.{drawn, parts, planning_in, planning_on, few_rules, cut_part}
-use Rattle.blocks.proofs.Making.{arm_made, equal_made, step_match, step_equal}
-use Rattle.blocks.proofs.ArmsLoop.{ArmsGoing, arms_start, arms_turn, match_made}
-use Rattle.laws.specs.Tests.{positive}
-use Rattle.blocks.proofs.StepsLoop.{StepsGoing, steps_start, steps_stop, steps_end, front_part, steps_turn, block_made}
+use Rattle.blocks.proofs.ArmsLoop.{ArmsGoing}
+use Rattle.blocks.proofs.StepsLoop.{StepsGoing}
 use Rattle.blocks.proofs.+making.Given as goal
 
 abbrev pub decreases-make_arm : goal.decreases-make_arm
@@ -43,4 +34,3 @@ decreases-make_steps l = 5 * l.left + 3
 
 abbrev pub decreases-sort : goal.decreases-sort
 decreases-sort l = 5 * l.left + 4
-

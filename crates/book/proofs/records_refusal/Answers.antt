@@ -1,11 +1,9 @@
 -- The first test that fails decides.
 use mathlib.Core.Path.{◌≡◌, sym, ◌∙◌}
 use mathlib.Core.Bool.{true, false, ◌&&◌}
-use borrow.Author.Tests.{not-true, not-false}
 use Rattle.definition.specs.Book.{slots}
 use Rattle.definition.specs.Bytes.{site_gaps, rule_gaps, sites_pass, rules_pass}
 use Rattle.laws.specs.Tests.{both}
-use borrow.Author.Rules.{rules}
 use Rattle.book.proofs.records_refusal.Goals as goal
 
 pub returns-then-not-site_records_ok : goal.returns-then-not-site_records_ok

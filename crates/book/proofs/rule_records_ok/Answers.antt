@@ -1,6 +1,5 @@
 -- The bytes that no word holds, then the words.
 use mathlib.Core.Path.{refl, sym, ◌∙◌}
-use borrow.Author.Tests.{not-true, not-false}
 use Rattle.laws.specs.Answers.{and_first, and_rest}
 use Rattle.book.proofs.rule_records_ok.Goals as goal
 

@@ -1,7 +1,6 @@
 -- The first test that fails decides.
 use mathlib.Core.Path.{◌≡◌, sym, ◌∙◌}
 use mathlib.Core.Bool.{true, false}
-use borrow.Author.Tests.{not-true, not-false}
 use Rattle.checks.proofs.RuleTests.{counted}
 use Rattle.definition.specs.Accept.{fields_ok, apart_ok, sound_ok}
 use Rattle.definition.specs.Book.{slots}

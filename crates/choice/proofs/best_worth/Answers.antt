@@ -1,8 +1,7 @@
 -- The loop's invariant: the greatest of `most` and the worth of the rules from k on is the greatest.
 use mathlib.Core.Path.{ap, ◌∙◌}
-use Prim.Native.Nat.{◌-◌, max}
-use lib.ListN.{length, drop}
-use Rattle.laws.specs.Greatest.{Climbed, climb_starts, climb_turn, climb_ends}
+use Prim.Native.Nat.{max}
+use Rattle.laws.specs.Greatest.{climb_starts, climb_turn, climb_ends}
 use Rattle.laws.specs.Runs.{in_slice}
 use Rattle.order.proofs.Asks.{held_at}
 use Rattle.choice.specs.Worth.{worth_of, rule_worth}

@@ -1,12 +1,8 @@
 -- The loop's invariant: the greatest of `most` and the worth of the rules from k on is the greatest.
-use mathlib.Core.Path.{ap, ◌∙◌}
-use Prim.Native.Nat.{◌-◌, max}
+use Prim.Native.Nat.{◌-◌}
 use lib.ListN.{length, drop}
-use Rattle.laws.specs.Greatest.{Climbed, climb_starts, climb_turn, climb_ends}
-use Rattle.laws.specs.Runs.{in_slice}
-use Rattle.order.proofs.Asks.{held_at}
+use Rattle.laws.specs.Greatest.{Climbed}
 use Rattle.choice.specs.Worth.{worth_of, rule_worth}
-use Rattle.choice.proofs.Answers.{named_at, part_top}
 use Rattle.choice.proofs.best_worth.Given as goal
 
 abbrev pub invariant-loop-k : goal.invariant-loop-k

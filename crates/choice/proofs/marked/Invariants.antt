@@ -1,9 +1,7 @@
 -- The loop's invariant: m of the first k ends are marked.
-use mathlib.Core.Path.{refl}
 use Prim.Native.Nat.{◌-◌, ◌≤◌}
-use native.Mathlib.Omega.{arith}
 use Rattle.tables.specs.Held.{end_slot}
-use Rattle.choice.proofs.Nearby.{MarkTold, told_starts, told_turn, told_ends}
+use Rattle.choice.proofs.Nearby.{MarkTold}
 use Rattle.choice.proofs.marked.Given as goal
 
 abbrev pub invariant-loop-k : goal.invariant-loop-k

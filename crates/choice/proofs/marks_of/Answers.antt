@@ -1,8 +1,7 @@
 -- The loop's invariant: the first k ends are marked.
 use mathlib.Core.Path.{refl}
-use Prim.Native.Nat.{◌-◌}
 use native.Mathlib.Omega.{arith}
-use Rattle.choice.proofs.Nearby.{Marking, mark_turn}
+use Rattle.choice.proofs.Nearby.{mark_turn}
 use Rattle.choice.proofs.marks_of.Goals as goal
 
 pub loop-k-init : goal.loop-k-init

@@ -1,8 +1,6 @@
 -- The loop's invariant: the first k ends are marked.
-use mathlib.Core.Path.{refl}
 use Prim.Native.Nat.{◌-◌}
-use native.Mathlib.Omega.{arith}
-use Rattle.choice.proofs.Nearby.{Marking, mark_turn}
+use Rattle.choice.proofs.Nearby.{Marking}
 use Rattle.choice.proofs.marks_of.Given as goal
 
 abbrev pub invariant-loop-k : goal.invariant-loop-k

@@ -1,11 +1,9 @@
 -- The loop's invariant: the greatest of `most` and the worth of the constraints from slot k on is the greatest.
 use mathlib.Core.Path.{ap, ◌∙◌}
-use mathlib.Core.List.{map}
-use Prim.Native.Nat.{◌-◌, max}
+use Prim.Native.Nat.{max}
 use native.Mathlib.Omega.{arith}
 use Rattle.definition.specs.Choice.{on}
-use Rattle.definition.specs.Lists.{from}
-use Rattle.laws.specs.Greatest.{Climbed, climb_starts, climb_turn, climb_slots}
+use Rattle.laws.specs.Greatest.{climb_starts, climb_turn, climb_slots}
 use Rattle.laws.specs.Runs.{in_slots}
 use Rattle.tables.specs.Held.{site_slot}
 use Rattle.choice.specs.Worth.{worth_of, match_worth, constraints_worth}

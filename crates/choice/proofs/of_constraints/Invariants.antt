@@ -1,15 +1,10 @@
 -- The loop's invariant: the greatest of `most` and the worth of the constraints from slot k on is the greatest.
-use mathlib.Core.Path.{ap, ◌∙◌}
 use mathlib.Core.List.{map}
-use Prim.Native.Nat.{◌-◌, max}
-use native.Mathlib.Omega.{arith}
-use Rattle.definition.specs.Choice.{on}
+use Prim.Native.Nat.{◌-◌}
 use Rattle.definition.specs.Lists.{from}
-use Rattle.laws.specs.Greatest.{Climbed, climb_starts, climb_turn, climb_slots}
-use Rattle.laws.specs.Runs.{in_slots}
+use Rattle.laws.specs.Greatest.{Climbed}
 use Rattle.tables.specs.Held.{site_slot}
-use Rattle.choice.specs.Worth.{worth_of, match_worth, constraints_worth}
-use Rattle.choice.proofs.Answers.{worth_alone}
+use Rattle.choice.specs.Worth.{worth_of, match_worth}
 use Rattle.choice.proofs.of_constraints.Given as goal
 
 abbrev pub invariant-loop-k : goal.invariant-loop-k

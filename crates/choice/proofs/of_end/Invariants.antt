@@ -1,13 +1,10 @@
 -- The loop's invariant: the greatest of `most` and the worth of x with the ends from k on is the greatest, and with an end before k it is at most `most`.
-use mathlib.Core.Path.{sym, ap, ◌∙◌}
-use Prim.Native.Nat.{◌-◌, ◌*◌}
-use native.Mathlib.Omega.{arith}
+use Prim.Native.Nat.{◌-◌}
 use Rattle.definition.specs.Book.{slots}
 use Rattle.definition.specs.Tables.{rule_at}
-use Rattle.laws.specs.Greatest.{climb_slots}
 use Rattle.tables.specs.Held.{end_slot}
-use Rattle.choice.specs.Worth.{worth_from, pair_worth, end_worth}
-use Rattle.laws.specs.Passing.{Passed, pass_starts, pass_asked, pass_over}
+use Rattle.choice.specs.Worth.{worth_from, pair_worth}
+use Rattle.laws.specs.Passing.{Passed}
 use Rattle.choice.proofs.of_end.Given as goal
 
 abbrev pub invariant-loop-k : goal.invariant-loop-k

@@ -1,11 +1,10 @@
 -- The loop's invariant: the greatest of `most` and the worth of the ends from k on is the greatest, and that of an end before k is at most `most`.
 use mathlib.Core.Path.{sym, ap, ◌∙◌}
-use Prim.Native.Nat.{◌-◌, ◌*◌}
+use Prim.Native.Nat.{◌*◌}
 use native.Mathlib.Omega.{arith}
 use Rattle.laws.specs.Greatest.{climb_slots}
-use Rattle.tables.specs.Held.{end_slot}
-use Rattle.choice.specs.Worth.{worth_from, end_worth, pairs_worth}
-use Rattle.laws.specs.Passing.{Passed, pass_starts, pass_asked, pass_over}
+use Rattle.choice.specs.Worth.{pairs_worth}
+use Rattle.laws.specs.Passing.{pass_starts, pass_asked, pass_over}
 use Rattle.choice.proofs.of_pairs.Goals as goal
 
 pub loop-k-init : goal.loop-k-init

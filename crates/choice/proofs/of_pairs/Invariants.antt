@@ -1,11 +1,8 @@
 -- The loop's invariant: the greatest of `most` and the worth of the ends from k on is the greatest, and that of an end before k is at most `most`.
-use mathlib.Core.Path.{sym, ap, ◌∙◌}
-use Prim.Native.Nat.{◌-◌, ◌*◌}
-use native.Mathlib.Omega.{arith}
-use Rattle.laws.specs.Greatest.{climb_slots}
+use Prim.Native.Nat.{◌-◌}
 use Rattle.tables.specs.Held.{end_slot}
-use Rattle.choice.specs.Worth.{worth_from, end_worth, pairs_worth}
-use Rattle.laws.specs.Passing.{Passed, pass_starts, pass_asked, pass_over}
+use Rattle.choice.specs.Worth.{worth_from, end_worth}
+use Rattle.laws.specs.Passing.{Passed}
 use Rattle.choice.proofs.of_pairs.Given as goal
 
 abbrev pub invariant-loop-k : goal.invariant-loop-k

@@ -1,13 +1,10 @@
 -- The loop's invariant: the near ones of the first k rules stand in front, and the others of them have raised the bar.
-use mathlib.Core.Path.{refl, sym, ap, ◌∙◌}
 use Prim.Native.Nat.{◌-◌}
-use native.Mathlib.Omega.{arith}
 use lib.ListN.{length}
 use Rattle.tables.specs.Held.{rank_of}
-use Rattle.order.proofs.Asks.{held_at, Lacked, lack_starts, lack_turn, lack_ends}
+use Rattle.order.proofs.Asks.{Lacked}
 use Rattle.choice.specs.Worth.{is_near}
-use Rattle.choice.proofs.Answers.{named_at}
-use Rattle.choice.proofs.Nearby.{Sharing, share_starts, share_take, share_skip, share_ends, near_yes, near_no}
+use Rattle.choice.proofs.Nearby.{Sharing}
 use Rattle.choice.proofs.sharing.Given as goal
 
 abbrev pub invariant-loop-k : goal.invariant-loop-k

@@ -5,7 +5,7 @@ use Prim.Native.Nat.{◌-◌}
 use native.Mathlib.Omega.{arith}
 use lib.Dec.{eqb}
 use borrow.Author.Tests.{eq-eqb, ne_eqb}
-use Rattle.definition.specs.Lists.{from, upto, any}
+use Rattle.definition.specs.Lists.{from, any}
 use Rattle.laws.specs.Ascending.{stands_in}
 use Rattle.laws.specs.Runs.{in_slots, any_skip, any_hit, any_end}
 use Rattle.tables.specs.Held.{end_slot}

@@ -1,13 +1,10 @@
 -- The loop's invariant: whether x is one of the ends from j to k is whether it is one of the first k.
-use mathlib.Core.Path.{◌≡◌, sym, ap, ◌∙◌}
+use mathlib.Core.Path.{◌≡◌}
 use mathlib.Core.List.{map}
 use Prim.Native.Nat.{◌-◌}
-use native.Mathlib.Omega.{arith}
 use lib.Dec.{eqb}
-use borrow.Author.Tests.{eq-eqb, ne_eqb}
 use Rattle.definition.specs.Lists.{from, upto, any}
 use Rattle.laws.specs.Ascending.{stands_in}
-use Rattle.laws.specs.Runs.{in_slots, any_skip, any_hit, any_end}
 use Rattle.tables.specs.Held.{end_slot}
 use Rattle.choice.proofs.stands_before.Given as goal
 

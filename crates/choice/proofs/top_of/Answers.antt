@@ -1,9 +1,8 @@
 -- The loop's invariant: the greatest of `most` and what is left is the greatest.
 use mathlib.Core.Path.{ap, ◌∙◌}
-use Prim.Native.Nat.{◌+◌, ◌-◌, max}
+use Prim.Native.Nat.{◌+◌, max}
 use native.Mathlib.Omega.{arith}
-use lib.ListN.{length, drop}
-use Rattle.laws.specs.Greatest.{Climbed, climb_starts, climb_turn, climb_ends}
+use Rattle.laws.specs.Greatest.{climb_starts, climb_turn, climb_ends}
 use Rattle.laws.specs.Runs.{in_slice}
 use Rattle.tables.specs.Held.{rank_of}
 use Rattle.order.proofs.Asks.{held_at}

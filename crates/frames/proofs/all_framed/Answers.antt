@@ -1,6 +1,5 @@
 -- The blocks passed are framed.
-use Rattle.std.proofs.Common.{◌≡◌, ℕ, ◌-◌, ◌≤◌, true, sym, ap, ◌∙◌, arith, rules}
-use borrow.Author.Tests.{not-true, not-false}
+use Rattle.std.proofs.Common.{◌≡◌, ℕ, sym, ap, ◌∙◌, arith, rules}
 use Rattle.definition.specs.Book.{slots}
 use Rattle.definition.specs.Bytes.{frame_ok}
 use Rattle.definition.specs.Lists.{upto, all}

@@ -1,10 +1,8 @@
 -- The blocks passed are framed.
-use Rattle.std.proofs.Common.{◌≡◌, ℕ, ◌-◌, ◌≤◌, true, sym, ap, ◌∙◌, arith, rules}
-use borrow.Author.Tests.{not-true, not-false}
+use Rattle.std.proofs.Common.{◌≡◌, ◌-◌, ◌≤◌, true}
 use Rattle.definition.specs.Book.{slots}
 use Rattle.definition.specs.Bytes.{frame_ok}
 use Rattle.definition.specs.Lists.{upto, all}
-use Rattle.laws.specs.Turns.{upto_next, upto_stop}
 use Rattle.frames.proofs.all_framed.Given as goal
 
 abbrev pub invariant-loop-i : goal.invariant-loop-i

@@ -1,5 +1,5 @@
 -- The words passed are added.
-use Rattle.std.proofs.Common.{◌≡◌, ℕ, ◌+◌, ◌-◌, ◌%◌, ◌^◌, ◌≤◌, sym, refl, ap, ◌∙◌, ap₂, add-one, arith, rules}
+use Rattle.std.proofs.Common.{◌≡◌, ℕ, ◌+◌, ◌%◌, ◌^◌, sym, refl, ap, ◌∙◌, ap₂, add-one, arith, rules}
 use Rattle.definition.specs.Bytes.{edition_1, sum_of}
 use borrow.Author.Rules.{rules}
 use Rattle.frames.proofs.block_sum.Goals as goal

@@ -1,6 +1,5 @@
 -- The first test that fails decides.
-use Rattle.std.proofs.Common.{◌≡◌, true, false, sym, ◌∙◌, rules}
-use borrow.Author.Tests.{not-true, not-false}
+use Rattle.std.proofs.Common.{◌≡◌, true, false, sym, ◌∙◌}
 use Rattle.frames.proofs.Framing.{at_least_one}
 use Rattle.definition.specs.Book.{slots}
 use Rattle.definition.specs.Bytes.{length_ok, sums_ok, frames_ok}

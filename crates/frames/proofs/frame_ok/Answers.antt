@@ -1,5 +1,5 @@
 -- A head, then site blocks, then rule blocks.
-use Rattle.std.proofs.Common.{sym, ap, ◌∙◌, rules}
+use Rattle.std.proofs.Common.{sym, ap, ◌∙◌}
 use Rattle.frames.proofs.Framing.{frame_head, frame_sites, frame_rules}
 use Rattle.definition.specs.Book.{slots}
 use Rattle.definition.specs.Bytes.{framed, frame_ok}

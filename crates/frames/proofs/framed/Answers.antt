@@ -1,5 +1,5 @@
 -- Number, kind, count, and the bytes behind those in use.
-use Rattle.std.proofs.Common.{sym, ◌∙◌, rules, eq-eqb, ne_eqb}
+use Rattle.std.proofs.Common.{sym, ◌∙◌, eq-eqb, ne_eqb}
 use Rattle.definition.specs.Bytes.{framed}
 use Rattle.laws.specs.Answers.{every_stop, every_rest, every_one}
 use Rattle.frames.proofs.framed.Goals as goal

@@ -1,5 +1,5 @@
 -- The tests come in the order of the definition.
-use Rattle.std.proofs.Common.{sym, ◌∙◌, rules}
+use Rattle.std.proofs.Common.{sym, ◌∙◌}
 use Rattle.frames.proofs.Framing.{many_sites, many_rules, wrong_total, by_blocks}
 use Rattle.frames.proofs.frames_ok.Goals as goal
 

@@ -1,5 +1,5 @@
 -- The sums of the blocks passed are right.
-use Rattle.std.proofs.Common.{◌≡◌, ℕ, ◌-◌, ◌/◌, ◌<◌, ◌≤◌, true, length, sym, ap, ◌∙◌, arith, rules, eq-eqb, ne_eqb}
+use Rattle.std.proofs.Common.{◌≡◌, ℕ, ◌/◌, ◌<◌, length, sym, ap, ◌∙◌, arith, eq-eqb, ne_eqb}
 use Rattle.definition.specs.Bytes.{block_count, edition_1, sum_ok, sums_ok}
 use Rattle.definition.specs.Lists.{upto, all}
 use Rattle.laws.specs.Turns.{upto_next, upto_stop}

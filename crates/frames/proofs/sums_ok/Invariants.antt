@@ -1,8 +1,7 @@
 -- The sums of the blocks passed are right.
-use Rattle.std.proofs.Common.{◌≡◌, ℕ, ◌-◌, ◌/◌, ◌<◌, ◌≤◌, true, length, sym, ap, ◌∙◌, arith, rules, eq-eqb, ne_eqb}
-use Rattle.definition.specs.Bytes.{block_count, edition_1, sum_ok, sums_ok}
+use Rattle.std.proofs.Common.{◌≡◌, ◌-◌, ◌/◌, ◌≤◌, true, length}
+use Rattle.definition.specs.Bytes.{edition_1, sum_ok}
 use Rattle.definition.specs.Lists.{upto, all}
-use Rattle.laws.specs.Turns.{upto_next, upto_stop}
 use Rattle.frames.proofs.sums_ok.Given as goal
 
 abbrev pub invariant-loop-i : goal.invariant-loop-i

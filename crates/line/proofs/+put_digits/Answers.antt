@@ -1,8 +1,6 @@
 -- `put_digits` meets its contract: the digits in front are those of a tenth of the number.
 use native.Mathlib.Omega.{arith}
 use Rattle.line.proofs.Writing.{spelled_one, spelled_more}
-use Prim.Native.Nat.{ℕ, ◌<◌}
-use borrow.Author.Rules.{rules}
 use Rattle.line.proofs.+put_digits.Goals as goal
 
 pub returns-then-n-lt10 : goal.returns-then-n-lt10
@@ -13,4 +11,3 @@ put_digits-next-requires t c = (omega arith, tt)
 
 pub returns : goal.returns
 returns t c = spelled_more _ c.if-n-lt10.false c.put_digits-next.ensures c.put_byte-2.ensures
-

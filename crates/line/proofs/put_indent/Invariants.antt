@@ -1,11 +1,10 @@
 -- `put_indent` meets its contract: two spaces for each number before k.
-use native.Mathlib.Omega.{arith}
 use mathlib.Core.Path.{◌≡◌}
 use mathlib.Core.List.{List}
 use Prim.Native.Nat.{ℕ, ◌≤◌, ◌-◌}
 use lib.ListN.{length}
 use Rattle.definition.specs.Listing.{text as quoted}
-use Rattle.line.proofs.Writing.{Each, each_starts, each_turn, indents}
+use Rattle.line.proofs.Writing.{Each}
 use Rattle.line.proofs.put_indent.Given as goal
 
 abbrev pub invariant-loop-k : goal.invariant-loop-k

@@ -1,11 +1,10 @@
 -- `put_points` meets its contract: each number before k, with a point.
-use native.Mathlib.Omega.{arith}
 use mathlib.Core.Path.{◌≡◌}
 use mathlib.Core.List.{◌++◌}
 use Prim.Native.Nat.{◌≤◌, ◌-◌}
 use lib.ListN.{length}
 use Rattle.definition.specs.Listing.{text as quoted, decimal}
-use Rattle.line.proofs.Writing.{Each, each_starts, each_turn, each_ends, writes_then}
+use Rattle.line.proofs.Writing.{Each}
 use Rattle.line.proofs.put_points.Given as goal
 
 abbrev pub invariant-loop-k : goal.invariant-loop-k

@@ -1,10 +1,6 @@
 -- `put_text` meets its contract: the bytes before k are written.
 use native.Mathlib.Omega.{arith}
-use mathlib.Core.Path.{◌≡◌}
-use mathlib.Core.List.{◌∷◌, []}
-use Prim.Native.Nat.{◌≤◌, ◌-◌}
-use lib.ListN.{length}
-use Rattle.line.proofs.Writing.{Each, each_starts, each_turn, bytes_end}
+use Rattle.line.proofs.Writing.{each_starts, each_turn, bytes_end}
 use borrow.Author.Rules.{rules}
 use Rattle.line.proofs.put_text.Goals as goal
 

@@ -1,10 +1,9 @@
 -- `put_text` meets its contract: the bytes before k are written.
-use native.Mathlib.Omega.{arith}
 use mathlib.Core.Path.{◌≡◌}
 use mathlib.Core.List.{◌∷◌, []}
 use Prim.Native.Nat.{◌≤◌, ◌-◌}
 use lib.ListN.{length}
-use Rattle.line.proofs.Writing.{Each, each_starts, each_turn, bytes_end}
+use Rattle.line.proofs.Writing.{Each}
 use Rattle.line.proofs.put_text.Given as goal
 
 abbrev pub invariant-loop-k : goal.invariant-loop-k

@@ -1,9 +1,7 @@
 -- The functions that read and write a tree call each other, with fewer blocks left at each block. What each reads and writes follows from its parts (Parts, Turns).
-use mathlib.Core.Path.{◌≡◌}
-use mathlib.Core.List.{List, [], ◌∷◌, ◌++◌}
-use Prim.Native.Nat.{ℕ, ◌-◌, ◌<◌, ◌+◌, ◌*◌}
+use Prim.Native.Nat.{◌-◌}
 use native.Mathlib.Omega.{arith}
-use lib.ListN.{length, length-drop}
+use lib.ListN.{length-drop}
 use Rattle.definition.specs.Read.{read_block, read_arm, read_counted, read_tagged, read_step}
 use Rattle.walk.proofs.Readers.{sum_within, arm_none, flow_short, flow_other, pair_order, pair_high, pair_none, block_deep, block_empty, block_long, block_none, step_none, steps_empty}
 use Rattle.line.specs.Writes.{numbers_of}
@@ -11,7 +9,7 @@ use Rattle.line.proofs.Writing.{room_less}
 use Rattle.listing.proofs.Reading.{tail, told_none, told_good}
 use Rattle.walk.proofs.Finds.{arm_stops, match_bad, block_left, block_found, step_stops}
 use Rattle.listing.proofs.Parts.{arm_good, flow_is, pair_good, counted_part, step_good}
-use Rattle.listing.proofs.Turns.{ArmsAt, arms_begin, arms_fail, arms_turn, arms_done, Steps, steps_begin, steps_stop, steps_turn, steps_done}
+use Rattle.listing.proofs.Turns.{arms_begin, arms_fail, arms_turn, arms_done, steps_begin, steps_stop, steps_turn, steps_done}
 use borrow.Author.Rules.{rules}
 use Rattle.listing.proofs.+reading.Goals as goal
 
@@ -236,4 +234,3 @@ steps-loop-i-preserved t c = (steps_turn (numbers_of c.args.path) (read_block c.
 
 pub steps-returns : goal.steps-returns
 steps-returns t c = record { is = steps_done (numbers_of c.args.path) (read_block c.args.left) c.loop-i.invariant.0 c.loop-i-test.false }
-

@@ -1,17 +1,11 @@
 -- The functions that read and write a tree call each other, with fewer blocks left at each block. What each reads and writes follows from its parts (Parts, Turns).
 use mathlib.Core.Path.{◌≡◌}
 use mathlib.Core.List.{List, [], ◌∷◌, ◌++◌}
-use Prim.Native.Nat.{ℕ, ◌-◌, ◌<◌, ◌+◌, ◌*◌}
-use native.Mathlib.Omega.{arith}
-use lib.ListN.{length, length-drop}
-use Rattle.definition.specs.Read.{read_block, read_arm, read_counted, read_tagged, read_step}
-use Rattle.walk.proofs.Readers.{sum_within, arm_none, flow_short, flow_other, pair_order, pair_high, pair_none, block_deep, block_empty, block_long, block_none, step_none, steps_empty}
+use Prim.Native.Nat.{ℕ, ◌-◌, ◌+◌, ◌*◌}
+use lib.ListN.{length}
+use Rattle.definition.specs.Read.{read_block}
 use Rattle.line.specs.Writes.{numbers_of}
-use Rattle.line.proofs.Writing.{room_less}
-use Rattle.listing.proofs.Reading.{tail, told_none, told_good}
-use Rattle.walk.proofs.Finds.{arm_stops, match_bad, block_left, block_found, step_stops}
-use Rattle.listing.proofs.Parts.{arm_good, flow_is, pair_good, counted_part, step_good}
-use Rattle.listing.proofs.Turns.{ArmsAt, arms_begin, arms_fail, arms_turn, arms_done, Steps, steps_begin, steps_stop, steps_turn, steps_done}
+use Rattle.listing.proofs.Turns.{ArmsAt, Steps}
 use Rattle.listing.proofs.+reading.Given as goal
 
 abbrev pub decreases-arm : goal.decreases-arm
@@ -46,4 +40,3 @@ invariant-steps-loop-i l = Steps (numbers_of l.path) (read_block l.left) l.w l.n
 
 abbrev pub decreases-steps-loop-i : goal.decreases-steps-loop-i
 decreases-steps-loop-i l = l.n - l.i
-

@@ -1,10 +1,7 @@
 -- `clear` meets its contract: every byte becomes zero.
-use Rattle.line.proofs.Writing.{Each, each_starts, each_turn, writes_set}
-use Rattle.listing.proofs.Whole.{nought, zeroed}
+use Rattle.line.proofs.Writing.{each_starts, each_turn, writes_set}
+use Rattle.listing.proofs.Whole.{zeroed}
 use native.Mathlib.Omega.{arith}
-use mathlib.Core.Path.{◌≡◌}
-use Prim.Native.Nat.{◌-◌}
-use lib.ListN.{length}
 use borrow.Author.Rules.{rules}
 use Rattle.listing.proofs.clear.Goals as goal
 

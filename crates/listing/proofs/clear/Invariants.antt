@@ -1,7 +1,6 @@
 -- `clear` meets its contract: every byte becomes zero.
-use Rattle.line.proofs.Writing.{Each, each_starts, each_turn, writes_set}
-use Rattle.listing.proofs.Whole.{nought, zeroed}
-use native.Mathlib.Omega.{arith}
+use Rattle.line.proofs.Writing.{Each}
+use Rattle.listing.proofs.Whole.{nought}
 use mathlib.Core.Path.{◌≡◌}
 use Prim.Native.Nat.{◌-◌}
 use lib.ListN.{length}

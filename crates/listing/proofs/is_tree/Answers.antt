@@ -1,7 +1,6 @@
 -- `is_tree` meets its contract: `block` reads the words or not, wherever it writes.
 use Rattle.listing.proofs.Reading.{told_none, told_good}
 use Rattle.listing.proofs.Whole.{some_read, none_read}
-use Rattle.listing.proofs.is_tree.Reads as reads
 use Rattle.listing.proofs.is_tree.Goals as goal
 
 pub block-seen-requires : goal.block-seen-requires

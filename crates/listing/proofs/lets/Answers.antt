@@ -1,10 +1,7 @@
 -- `lets` meets its contract: the ids before i are read, and their lines are written.
 use native.Mathlib.Omega.{arith}
-use mathlib.Core.Path.{◌≡◌}
-use Prim.Native.Nat.{◌≤◌, ◌-◌}
-use lib.ListN.{length}
 use Rattle.line.specs.Writes.{numbers_of}
-use Rattle.listing.proofs.Reading.{Lets, taken_starts, lets_turn, lets_good}
+use Rattle.listing.proofs.Reading.{taken_starts, lets_turn, lets_good}
 use Rattle.walk.proofs.Readers.{lets_empty, lets_short, lets_bad}
 use borrow.Author.Rules.{rules}
 use Rattle.listing.proofs.lets.Goals as goal

@@ -1,6 +1,5 @@
 -- `list` meets its contract: no tree, a text that fits, or one that is too long.
 use native.Mathlib.Omega.{arith}
-use borrow.Author.Tests.{not-true, not-false}
 use mathlib.Core.Path.{sym, ◌∙◌}
 use Rattle.definition.specs.Read.{read_block}
 use Rattle.listing.proofs.Reading.{told_none, told_good}

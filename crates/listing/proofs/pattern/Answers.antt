@@ -1,5 +1,4 @@
 -- `pattern` meets its contract: three words, the places, and the line of the arm.
-use borrow.Author.Tests.{not-true, not-false}
 use native.Mathlib.Omega.{arith}
 use mathlib.Core.Path.{sym, ◌∙◌}
 use lib.ListN.{get_or, length-drop}

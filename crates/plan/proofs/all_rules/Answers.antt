@@ -1,9 +1,7 @@
 -- `all_rules` meets its contract: the order is counted up.
-use mathlib.Core.Path.{◌≡◌, refl}
-use Prim.Native.Nat.{◌-◌, ◌≤◌}
+use mathlib.Core.Path.{refl}
 use native.Mathlib.Omega.{arith}
-use lib.ListN.{length}
-use Rattle.laws.specs.Loops.{Filled, fill_starts, fill_turn}
+use Rattle.laws.specs.Loops.{fill_starts, fill_turn}
 use Rattle.plan.proofs.all_rules.Goals as goal
 
 pub loop-i-init : goal.loop-i-init

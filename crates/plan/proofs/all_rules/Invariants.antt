@@ -1,9 +1,8 @@
 -- `all_rules` meets its contract: the order is counted up.
-use mathlib.Core.Path.{◌≡◌, refl}
+use mathlib.Core.Path.{◌≡◌}
 use Prim.Native.Nat.{◌-◌, ◌≤◌}
-use native.Mathlib.Omega.{arith}
 use lib.ListN.{length}
-use Rattle.laws.specs.Loops.{Filled, fill_starts, fill_turn}
+use Rattle.laws.specs.Loops.{Filled}
 use Rattle.plan.proofs.all_rules.Given as goal
 
 abbrev pub invariant-loop-i : goal.invariant-loop-i

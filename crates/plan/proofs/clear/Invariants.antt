@@ -1,9 +1,7 @@
 -- `clear` meets its contract: every word becomes zero.
-use mathlib.Core.Path.{refl}
 use Prim.Native.Nat.{◌-◌}
-use native.Mathlib.Omega.{arith}
 use lib.ListN.{length}
-use Rattle.laws.specs.Loops.{Filled, fill_starts, fill_turn, all_zero}
+use Rattle.laws.specs.Loops.{Filled}
 use Rattle.plan.proofs.clear.Given as goal
 
 abbrev pub invariant-loop-k : goal.invariant-loop-k

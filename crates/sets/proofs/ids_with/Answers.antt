@@ -1,9 +1,7 @@
 -- `sets::ids_with` meets its contract: before turn i the ids below i whose entry is a stand at the front.
-use Prim.Native.Nat.{ℕ, ◌≤◌, ◌-◌}
 use mathlib.Core.Path.{◌≡◌}
-use mathlib.Core.Logic.{⊎_elim}
 use native.Mathlib.Omega.{arith}
-use Rattle.laws.specs.Loops.{Collected, collect_starts, collect_one}
+use Rattle.laws.specs.Loops.{collect_starts, collect_one}
 use Rattle.sets.specs.Entries.{ids_with}
 use Rattle.sets.proofs.Members.{ids_take, ids_skip}
 use borrow.Author.Rules.{rules}
@@ -19,8 +17,9 @@ loop-i-preserved c =
     let a = c.args in
     let v = c.loop-i in
     elim c.if-l-i.branch [
-      then-l-i w ↦ (omega arith, omega arith, rw (w.ids-is, w.n-is, ids_take a.a a.l v.i w.if-l-i.true) (collect_one v.i v.invariant.2 (omega arith)))
-    | else-l-i w ↦ (omega arith, omega arith, rw (w.ids-is, w.n-is, ids_skip a.a a.l v.i w.if-l-i.false) v.invariant.2) ]
+      | then-l-i w ↦ (omega arith, omega arith, rw (w.ids-is, w.n-is, ids_take a.a a.l v.i w.if-l-i.true) (collect_one v.i v.invariant.2 (omega arith)))
+      | else-l-i w ↦ (omega arith, omega arith, rw (w.ids-is, w.n-is, ids_skip a.a a.l v.i w.if-l-i.false) v.invariant.2)
+    ]
 
 pub returns : goal.returns
 returns c =

@@ -1,11 +1,7 @@
 -- `sets::ids_with` meets its contract: before turn i the ids below i whose entry is a stand at the front.
 use Prim.Native.Nat.{ℕ, ◌≤◌, ◌-◌}
-use mathlib.Core.Path.{◌≡◌}
-use mathlib.Core.Logic.{⊎_elim}
-use native.Mathlib.Omega.{arith}
-use Rattle.laws.specs.Loops.{Collected, collect_starts, collect_one}
+use Rattle.laws.specs.Loops.{Collected}
 use Rattle.sets.specs.Entries.{ids_with}
-use Rattle.sets.proofs.Members.{ids_take, ids_skip}
 use Rattle.sets.proofs.ids_with.Given as goal
 
 abbrev pub invariant-loop-i : goal.invariant-loop-i

@@ -1,7 +1,7 @@
 -- `sets::relabelled` meets its contract: the first i entries are renamed, the others are as they were.
-use Prim.Native.Nat.{◌≤◌, ◌<◌, ◌-◌}
+use Prim.Native.Nat.{◌≤◌, ◌<◌}
 use lib.ListN.{length}
-use Rattle.laws.specs.Loops.{Mapped, map_starts, map_turn, map_ends, relabel}
+use Rattle.laws.specs.Loops.{map_starts, map_turn, map_ends}
 use borrow.Author.Rules.{rules}
 use Rattle.sets.proofs.relabelled.Goals as goal
 

@@ -1,7 +1,6 @@
 -- `sets::relabelled` meets its contract: the first i entries are renamed, the others are as they were.
-use Prim.Native.Nat.{◌≤◌, ◌<◌, ◌-◌}
-use lib.ListN.{length}
-use Rattle.laws.specs.Loops.{Mapped, map_starts, map_turn, map_ends, relabel}
+use Prim.Native.Nat.{◌≤◌, ◌-◌}
+use Rattle.laws.specs.Loops.{Mapped, relabel}
 use Rattle.sets.proofs.relabelled.Given as goal
 
 abbrev pub invariant-loop-i : goal.invariant-loop-i

@@ -1,5 +1,5 @@
 -- Word 3 of a kind 7 site is its pattern kind.
-use Rattle.std.proofs.Common.{sym, ◌∙◌, rules}
+use Rattle.std.proofs.Common.{sym, ◌∙◌}
 use Rattle.tables.proofs.Fields.{bound_kind}
 use Rattle.tables.proofs.bound_kind.Goals as goal
 

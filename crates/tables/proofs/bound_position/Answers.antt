@@ -1,5 +1,5 @@
 -- Word 4 of a kind 7 site is its position.
-use Rattle.std.proofs.Common.{sym, ◌∙◌, rules}
+use Rattle.std.proofs.Common.{sym, ◌∙◌}
 use Rattle.tables.proofs.Fields.{bound_position}
 use Rattle.tables.proofs.bound_position.Goals as goal
 

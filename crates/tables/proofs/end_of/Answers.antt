@@ -1,6 +1,6 @@
 -- The loop's invariant: none of the first k ends is x.
-use Rattle.std.proofs.Common.{◌-◌, ◌≤◌, sym, ◌∙◌, arith, rules}
-use Rattle.tables.proofs.Ends.{Passed, pass_starts, pass_turn, no_end}
+use Rattle.std.proofs.Common.{sym, ◌∙◌, arith, rules}
+use Rattle.tables.proofs.Ends.{pass_starts, pass_turn, no_end}
 use borrow.Author.Rules.{rules}
 use Rattle.tables.proofs.end_of.Goals as goal
 

@@ -1,5 +1,5 @@
 -- Word 5 of a rule is the length of its list of impure sites.
-use Rattle.std.proofs.Common.{sym, ◌∙◌, arith, rules}
+use Rattle.std.proofs.Common.{sym, ◌∙◌, arith}
 use Rattle.tables.proofs.Fields.{impure_count}
 use Rattle.tables.proofs.impure_count.Goals as goal
 

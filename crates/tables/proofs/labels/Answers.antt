@@ -1,8 +1,5 @@
 -- The loop's invariant: the pairs from slot k on are joined.
-use Rattle.std.proofs.Common.{◌≡◌, ◌-◌, ◌≤◌, arith, rules}
-use Rattle.definition.specs.Book.{slots}
-use Rattle.definition.specs.Tables.{rule_word}
-use Rattle.tables.specs.Held.{Labels}
+use Rattle.std.proofs.Common.{◌-◌, arith, rules}
 use Rattle.tables.proofs.Slots.{label_turn, labels_now}
 use borrow.Author.Rules.{rules}
 use Rattle.tables.proofs.labels.Goals as goal

@@ -1,9 +1,8 @@
 -- The loop's invariant: the pairs from slot k on are joined.
-use Rattle.std.proofs.Common.{◌≡◌, ◌-◌, ◌≤◌, arith, rules}
+use Rattle.std.proofs.Common.{◌≡◌, ◌-◌, ◌≤◌}
 use Rattle.definition.specs.Book.{slots}
 use Rattle.definition.specs.Tables.{rule_word}
 use Rattle.tables.specs.Held.{Labels}
-use Rattle.tables.proofs.Slots.{label_turn, labels_now}
 use Rattle.tables.proofs.labels.Given as goal
 
 abbrev pub invariant-loop-k : goal.invariant-loop-k

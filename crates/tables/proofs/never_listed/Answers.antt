@@ -1,5 +1,4 @@
 -- The three ranges of kinds: below 4, 4 and 5, above.
-use Rattle.std.proofs.Common.{rules}
 use Rattle.tables.proofs.Fields.{low_kind, made_kind, high_kind}
 use Rattle.tables.proofs.never_listed.Goals as goal
 

@@ -1,7 +1,6 @@
 -- The loop's invariant: the first k labels are the ends themselves.
-use Rattle.std.proofs.Common.{◌≡◌, ◌-◌, ◌≤◌, length, refl, ◌∙◌, arith, rules}
-use Rattle.laws.specs.Loops.{Filled, fill_starts, fill_turn}
-use Rattle.tables.specs.Held.{end_slot}
+use Rattle.std.proofs.Common.{refl, ◌∙◌, arith}
+use Rattle.laws.specs.Loops.{fill_starts, fill_turn}
 use Rattle.tables.proofs.Slots.{own_label_each}
 use Rattle.tables.proofs.own_labels.Goals as goal
 

@@ -1,8 +1,7 @@
 -- The loop's invariant: the first k labels are the ends themselves.
-use Rattle.std.proofs.Common.{◌≡◌, ◌-◌, ◌≤◌, length, refl, ◌∙◌, arith, rules}
-use Rattle.laws.specs.Loops.{Filled, fill_starts, fill_turn}
+use Rattle.std.proofs.Common.{◌≡◌, ◌-◌, ◌≤◌, length}
+use Rattle.laws.specs.Loops.{Filled}
 use Rattle.tables.specs.Held.{end_slot}
-use Rattle.tables.proofs.Slots.{own_label_each}
 use Rattle.tables.proofs.own_labels.Given as goal
 
 abbrev pub invariant-loop-k : goal.invariant-loop-k

@@ -1,8 +1,6 @@
 -- The loop's invariant: the first pattern on s among the constraints from slot k on is the rule's.
-use Rattle.std.proofs.Common.{◌≡◌, ◌-◌, ◌≤◌, ◌∙◌, arith, rules, eq-eqb, ne_eqb}
-use Rattle.definition.specs.Book.{slots, pattern_in, pattern_on}
-use Rattle.definition.specs.Tables.{rule_at}
-use Rattle.tables.proofs.Slots.{constraints_from, on_slot, pattern_all, pattern_skip, pattern_hit, pattern_end, slot_shown}
+use Rattle.std.proofs.Common.{◌∙◌, arith, eq-eqb, ne_eqb}
+use Rattle.tables.proofs.Slots.{on_slot, pattern_all, pattern_skip, pattern_hit, pattern_end, slot_shown}
 use Rattle.tables.proofs.pattern_on.Goals as goal
 
 pub loop-k-init : goal.loop-k-init

@@ -1,8 +1,8 @@
 -- The loop's invariant: the first pattern on s among the constraints from slot k on is the rule's.
-use Rattle.std.proofs.Common.{◌≡◌, ◌-◌, ◌≤◌, ◌∙◌, arith, rules, eq-eqb, ne_eqb}
+use Rattle.std.proofs.Common.{◌≡◌, ◌-◌, ◌≤◌}
 use Rattle.definition.specs.Book.{slots, pattern_in, pattern_on}
 use Rattle.definition.specs.Tables.{rule_at}
-use Rattle.tables.proofs.Slots.{constraints_from, on_slot, pattern_all, pattern_skip, pattern_hit, pattern_end, slot_shown}
+use Rattle.tables.proofs.Slots.{constraints_from}
 use Rattle.tables.proofs.pattern_on.Given as goal
 
 abbrev pub invariant-loop-k : goal.invariant-loop-k

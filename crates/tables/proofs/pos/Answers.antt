@@ -1,5 +1,5 @@
 -- Word 1 of a rule is its position.
-use Rattle.std.proofs.Common.{sym, ◌∙◌, rules}
+use Rattle.std.proofs.Common.{sym, ◌∙◌}
 use Rattle.tables.proofs.Fields.{rule_pos}
 use Rattle.tables.proofs.pos.Goals as goal
 

@@ -1,6 +1,6 @@
 -- The loop's invariant: the first k entries are renamed, the others are as they were.
-use Rattle.std.proofs.Common.{◌-◌, ◌<◌, ◌≤◌, length, rules}
-use Rattle.laws.specs.Loops.{Mapped, map_starts, map_turn, map_ends, relabel}
+use Rattle.std.proofs.Common.{◌<◌, ◌≤◌, length, rules}
+use Rattle.laws.specs.Loops.{map_starts, map_turn, map_ends}
 use Rattle.tables.specs.Held.{}
 use borrow.Author.Rules.{rules}
 use Rattle.tables.proofs.relabelled.Goals as goal

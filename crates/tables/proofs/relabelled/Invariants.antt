@@ -1,6 +1,6 @@
 -- The loop's invariant: the first k entries are renamed, the others are as they were.
-use Rattle.std.proofs.Common.{◌-◌, ◌<◌, ◌≤◌, length, rules}
-use Rattle.laws.specs.Loops.{Mapped, map_starts, map_turn, map_ends, relabel}
+use Rattle.std.proofs.Common.{◌-◌, ◌≤◌}
+use Rattle.laws.specs.Loops.{Mapped, relabel}
 use Rattle.tables.specs.Held.{}
 use Rattle.tables.proofs.relabelled.Given as goal
 

@@ -1,5 +1,5 @@
 -- Word 2 of a rule is its result.
-use Rattle.std.proofs.Common.{sym, ◌∙◌, rules}
+use Rattle.std.proofs.Common.{sym, ◌∙◌}
 use Rattle.tables.proofs.Fields.{rule_result}
 use Rattle.tables.proofs.result.Goals as goal
 

@@ -1,10 +1,7 @@
 -- The loop's invariant: whether one of the constraints from slot k on is on s is whether any is.
-use Rattle.std.proofs.Common.{◌≡◌, ◌-◌, ◌≤◌, sym, ◌∙◌, arith, rules, eq-eqb, ne_eqb}
-use Rattle.definition.specs.Book.{slots, is_on, constrains}
-use Rattle.definition.specs.Lists.{any}
-use Rattle.definition.specs.Tables.{rule_at}
+use Rattle.std.proofs.Common.{sym, ◌∙◌, arith, eq-eqb, ne_eqb}
 use Rattle.laws.specs.Runs.{in_slots, any_skip, any_hit, any_end}
-use Rattle.tables.proofs.Slots.{constraints_from, on_slot, constrains_all}
+use Rattle.tables.proofs.Slots.{on_slot, constrains_all}
 use Rattle.tables.proofs.rule_constrains.Goals as goal
 
 pub loop-k-init : goal.loop-k-init

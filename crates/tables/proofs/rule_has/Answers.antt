@@ -1,5 +1,5 @@
 -- The two kinds of test.
-use Rattle.std.proofs.Common.{rules, eq-eqb, ne_eqb}
+use Rattle.std.proofs.Common.{eq-eqb, ne_eqb}
 use Rattle.definition.specs.Choice.{has}
 use Rattle.tables.proofs.rule_has.Goals as goal
 

@@ -1,5 +1,5 @@
 -- A site that is in no pair is alone in its class; of two that are, the labels decide.
-use Rattle.std.proofs.Common.{sym, rules}
+use Rattle.std.proofs.Common.{sym}
 use Rattle.tables.proofs.Ends.{linked_self, no_first_end, no_second_end}
 use Rattle.tables.proofs.Slots.{labels_tell}
 use Rattle.tables.proofs.rule_links.Goals as goal

@@ -1,5 +1,5 @@
 -- Word 0 of a site is its kind.
-use Rattle.std.proofs.Common.{sym, ◌∙◌, rules}
+use Rattle.std.proofs.Common.{sym, ◌∙◌}
 use Rattle.tables.proofs.Fields.{site_kind}
 use Rattle.tables.proofs.site_kind.Goals as goal
 

@@ -1,5 +1,5 @@
 -- Source k stands in word 2 + k.
-use Rattle.std.proofs.Common.{sym, ◌∙◌, arith, rules}
+use Rattle.std.proofs.Common.{sym, ◌∙◌, arith}
 use Rattle.tables.proofs.Fields.{source_count, source_is}
 use Rattle.tables.proofs.source.Goals as goal
 

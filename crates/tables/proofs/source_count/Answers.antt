@@ -1,5 +1,5 @@
 -- Word 1 of a site is the length of its list of sources.
-use Rattle.std.proofs.Common.{sym, ◌∙◌, arith, rules}
+use Rattle.std.proofs.Common.{sym, ◌∙◌, arith}
 use Rattle.tables.proofs.Fields.{source_count}
 use Rattle.tables.proofs.source_count.Goals as goal
 

@@ -6,12 +6,11 @@ use Rattle.walk.proofs.Readers.{sum_within, arm_none, flow_short, flow_other, pa
 use Rattle.walk.specs.Ends.{reading, Ends}
 use Rattle.walk.proofs.Finds.{arm_stops, match_bad, inner_part, block_left, block_found, step_stops}
 use Rattle.walk.proofs.Parts.{arm_good, flow_is, pair_good, step_good}
-use Rattle.walk.proofs.Turns.{ArmsAt, arms_begin, arms_fail, arms_turn, arms_done, Steps, steps_begin, steps_stop, steps_turn, steps_done}
-use Prim.Native.Nat.{ℕ, ◌-◌, ◌<◌, ◌+◌, ◌*◌}
+use Rattle.walk.proofs.Turns.{arms_begin, arms_fail, arms_turn, arms_done, steps_begin, steps_stop, steps_turn, steps_done}
+use Prim.Native.Nat.{◌-◌}
 use mathlib.Core.Path.{subst}
 use lib.ListN.{length-drop}
 use Rattle.definition.specs.Walk.{sites_in, walk}
-use borrow.Author.Rules.{rules}
 use Rattle.walk.proofs.+reading.Goals as goal
 
 pub arm-returns-in_default : goal.arm-returns-in_default
@@ -214,4 +213,3 @@ steps-loop-i-preserved t c = steps_turn (reading c.args.kinds.now c.args.numbers
 
 pub steps-returns : goal.steps-returns
 steps-returns t c = record { is = steps_done (reading c.args.kinds.now c.args.numbers.now c.args.identities.now) (read_block c.args.left) c.loop-i.invariant c.loop-i-test.false }
-

@@ -1,16 +1,8 @@
 -- The cycle of `walk` meets its contracts: what its members have to show on their way, put together.
-use Rattle.walk.proofs.Laws.{tail, held_tail, told_none, told_good}
-use native.Mathlib.Omega.{arith}
-use Rattle.definition.specs.Read.{read_block, read_arm, read_counted, read_tagged, read_step}
-use Rattle.walk.proofs.Readers.{sum_within, arm_none, flow_short, flow_other, pair_order, pair_high, pair_none, block_deep, block_empty, block_long, block_none, step_none, steps_empty}
-use Rattle.walk.specs.Ends.{reading, Ends}
-use Rattle.walk.proofs.Finds.{arm_stops, match_bad, inner_part, block_left, block_found, step_stops}
-use Rattle.walk.proofs.Parts.{arm_good, flow_is, pair_good, step_good}
-use Rattle.walk.proofs.Turns.{ArmsAt, arms_begin, arms_fail, arms_turn, arms_done, Steps, steps_begin, steps_stop, steps_turn, steps_done}
-use Prim.Native.Nat.{ℕ, ◌-◌, ◌<◌, ◌+◌, ◌*◌}
-use mathlib.Core.Path.{subst}
-use lib.ListN.{length-drop}
-use Rattle.definition.specs.Walk.{sites_in, walk}
+use Rattle.definition.specs.Read.{read_block}
+use Rattle.walk.specs.Ends.{reading}
+use Rattle.walk.proofs.Turns.{ArmsAt, Steps}
+use Prim.Native.Nat.{◌-◌, ◌+◌, ◌*◌}
 use Rattle.walk.proofs.+reading.Given as goal
 
 abbrev pub decreases-arm : goal.decreases-arm
@@ -45,4 +37,3 @@ invariant-steps-loop-i l = Steps (reading l.kinds l.numbers l.identities) (read_
 
 abbrev pub decreases-steps-loop-i : goal.decreases-steps-loop-i
 decreases-steps-loop-i l = l.n - l.i
-

@@ -1,6 +1,5 @@
 -- The loop's invariant: the lets before i are ids, and `top` is one more than the greatest.
-use Rattle.walk.proofs.Laws.{Lets, lets_begin, lets_more, lets_good}
-use Prim.Native.Nat.{◌≤◌, ◌-◌}
+use Rattle.walk.proofs.Laws.{lets_begin, lets_more, lets_good}
 use native.Mathlib.Omega.{arith}
 use Rattle.walk.proofs.Readers.{lets_empty, lets_short, lets_bad}
 use Rattle.walk.proofs.lets.Goals as goal

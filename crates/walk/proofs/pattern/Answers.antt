@@ -1,5 +1,4 @@
 -- `pattern` meets its contract: three words, and the places.
-use borrow.Author.Tests.{not-true, not-false}
 use mathlib.Core.Path.{sym, ◌∙◌}
 use native.Mathlib.Omega.{arith}
 use Rattle.definition.specs.Read.{read_places}

@@ -1,14 +1,11 @@
 -- The ids passed stand where they belong.
-use Prim.Native.Nat.{ℕ, ◌+◌, ◌-◌, ◌*◌, ◌≤◌}
-use mathlib.Core.Path.{◌≡◌, refl, ap, ap₂, ◌∙◌}
-use mathlib.Core.List.{List, map}
-use native.Mathlib.Omega.{arith}
-use lib.ListN.{length, set}
-use lib.Seq.{sets, length-sets}
+use Prim.Native.Nat.{◌-◌, ◌≤◌}
+use mathlib.Core.Path.{◌≡◌}
+use mathlib.Core.List.{map}
+use lib.Seq.{sets}
 use Rattle.definition.specs.Book.{slots}
-use Rattle.definition.specs.Bytes.{le16, id_field}
+use Rattle.definition.specs.Bytes.{id_field}
 use Rattle.definition.specs.Lists.{upto}
-use Rattle.laws.specs.Stores.{words_more}
 use Rattle.book.proofs.records.put_ids.Given as goal
 
 abbrev pub invariant-loop-k : goal.invariant-loop-k

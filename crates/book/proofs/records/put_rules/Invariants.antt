@@ -1,15 +1,10 @@
 -- The records passed stand at the front of the table.
-use Prim.Native.Nat.{ℕ, ◌+◌, ◌-◌, ◌*◌, ◌/◌, ◌≤◌}
-use mathlib.Core.Path.{◌≡◌, refl, ap, ◌∙◌}
-use mathlib.Core.List.{List}
-use native.Mathlib.Omega.{arith}
-use lib.ListN.{length}
-use lib.Seq.{sets, length-sets}
-use Rattle.book.proofs.Recording.{length_rule_fields}
+use Prim.Native.Nat.{◌+◌, ◌-◌, ◌/◌, ◌≤◌}
+use mathlib.Core.Path.{◌≡◌}
+use lib.Seq.{sets}
 use Rattle.definition.specs.Book.{slots}
-use Rattle.definition.specs.Bytes.{rule_record, rule_table}
+use Rattle.definition.specs.Bytes.{rule_record}
 use Rattle.definition.specs.Lists.{upto, flat}
-use Rattle.laws.specs.Stores.{records_more}
 use Rattle.book.proofs.records.put_rules.Given as goal
 
 abbrev pub invariant-loop-i : goal.invariant-loop-i

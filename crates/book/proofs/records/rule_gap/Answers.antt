@@ -1,6 +1,5 @@
 -- One byte behind the counts, two at the end.
 use mathlib.Core.Path.{refl, sym, ◌∙◌}
-use borrow.Author.Tests.{not-true, not-false}
 use Rattle.laws.specs.Answers.{and_first, and_rest}
 use Rattle.book.proofs.records.rule_gap.Goals as goal
 

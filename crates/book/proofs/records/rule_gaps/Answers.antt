@@ -1,9 +1,7 @@
 -- The records passed have no stray byte.
-use Prim.Native.Nat.{ℕ, ◌+◌, ◌-◌, ◌/◌, ◌≤◌}
+use Prim.Native.Nat.{ℕ}
 use mathlib.Core.Path.{◌≡◌, refl, sym, ap, ◌∙◌}
-use mathlib.Core.Bool.{true}
 use native.Mathlib.Omega.{arith}
-use borrow.Author.Tests.{not-true, not-false}
 use Rattle.definition.specs.Book.{slots}
 use Rattle.definition.specs.Bytes.{rule_gap, rule_gaps}
 use Rattle.definition.specs.Lists.{upto, all}

@@ -1,13 +1,10 @@
 -- The records passed have no stray byte.
-use Prim.Native.Nat.{ℕ, ◌+◌, ◌-◌, ◌/◌, ◌≤◌}
-use mathlib.Core.Path.{◌≡◌, refl, sym, ap, ◌∙◌}
+use Prim.Native.Nat.{◌+◌, ◌-◌, ◌/◌, ◌≤◌}
+use mathlib.Core.Path.{◌≡◌}
 use mathlib.Core.Bool.{true}
-use native.Mathlib.Omega.{arith}
-use borrow.Author.Tests.{not-true, not-false}
 use Rattle.definition.specs.Book.{slots}
-use Rattle.definition.specs.Bytes.{rule_gap, rule_gaps}
+use Rattle.definition.specs.Bytes.{rule_gap}
 use Rattle.definition.specs.Lists.{upto, all}
-use Rattle.laws.specs.Turns.{upto_next, upto_stop}
 use Rattle.book.proofs.records.rule_gaps.Given as goal
 
 abbrev pub invariant-loop-i : goal.invariant-loop-i

@@ -1,12 +1,9 @@
 -- The records passed have no stray byte.
-use Prim.Native.Nat.{ℕ, ◌-◌, ◌≤◌}
-use mathlib.Core.Path.{◌≡◌, sym, ap, ◌∙◌}
+use Prim.Native.Nat.{◌-◌, ◌≤◌}
+use mathlib.Core.Path.{◌≡◌}
 use mathlib.Core.Bool.{true}
-use native.Mathlib.Omega.{arith}
-use borrow.Author.Tests.{not-true, not-false}
-use Rattle.definition.specs.Bytes.{site_gap, site_gaps}
+use Rattle.definition.specs.Bytes.{site_gap}
 use Rattle.definition.specs.Lists.{upto, all}
-use Rattle.laws.specs.Turns.{upto_next, upto_stop}
 use Rattle.book.proofs.records.site_gaps.Given as goal
 
 abbrev pub invariant-loop-s : goal.invariant-loop-s

@@ -1,15 +1,12 @@
 -- The pairs passed are apart from the constraints.
-use Prim.Native.Nat.{ℕ, ◌-◌, ◌≤◌}
-use mathlib.Core.Path.{◌≡◌, sym, ap, ◌∙◌}
+use Prim.Native.Nat.{◌-◌, ◌≤◌}
+use mathlib.Core.Path.{◌≡◌}
 use mathlib.Core.Bool.{true}
 use mathlib.Core.List.{map}
-use native.Mathlib.Omega.{arith}
-use borrow.Author.Tests.{not-true, not-false}
-use Rattle.definition.specs.Accept.{pair_apart, apart}
+use Rattle.definition.specs.Accept.{pair_apart}
 use Rattle.definition.specs.Book.{slots}
 use Rattle.definition.specs.Lists.{upto, all}
 use Rattle.definition.specs.Tables.{pair_at, rule_at}
-use Rattle.laws.specs.Turns.{mapped_next, mapped_stop}
 use Rattle.checks.proofs.apart.apart.Given as goal
 
 abbrev pub invariant-loop-k : goal.invariant-loop-k

@@ -1,9 +1,7 @@
 -- The rules passed are apart.
-use Prim.Native.Nat.{ℕ, ◌-◌, ◌≤◌}
+use Prim.Native.Nat.{ℕ}
 use mathlib.Core.Path.{◌≡◌, sym, ap, ◌∙◌}
-use mathlib.Core.Bool.{true}
 use native.Mathlib.Omega.{arith}
-use borrow.Author.Tests.{not-true, not-false}
 use Rattle.checks.proofs.RulePairs.{apart_ok_is}
 use Rattle.definition.specs.Accept.{apart}
 use Rattle.definition.specs.Book.{slots}

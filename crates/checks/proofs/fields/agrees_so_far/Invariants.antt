@@ -1,13 +1,10 @@
 -- The rules passed agree with it.
-use Prim.Native.Nat.{ℕ, ◌+◌, ◌-◌, ◌≤◌}
-use mathlib.Core.Path.{◌≡◌, sym, ap, ◌∙◌}
+use Prim.Native.Nat.{◌+◌, ◌-◌, ◌≤◌}
+use mathlib.Core.Path.{◌≡◌}
 use mathlib.Core.Bool.{true}
-use native.Mathlib.Omega.{arith}
-use borrow.Author.Tests.{not-true, not-false}
-use Rattle.checks.specs.Words.{rules_agree, agrees_so_far}
+use Rattle.checks.specs.Words.{rules_agree}
 use Rattle.definition.specs.Book.{slots}
 use Rattle.definition.specs.Lists.{upto, all}
-use Rattle.laws.specs.Turns.{upto_next, upto_stop}
 use Rattle.checks.proofs.fields.agrees_so_far.Given as goal
 
 abbrev pub invariant-loop-j : goal.invariant-loop-j

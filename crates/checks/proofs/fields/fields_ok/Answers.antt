@@ -1,13 +1,11 @@
 -- Each rule passed agrees with those up to it.
-use Prim.Native.Nat.{ℕ, ◌-◌, ◌≤◌}
+use Prim.Native.Nat.{ℕ}
 use mathlib.Core.Path.{◌≡◌, sym, ap, ◌∙◌}
-use mathlib.Core.Bool.{true}
 use native.Mathlib.Omega.{arith}
-use borrow.Author.Tests.{not-true, not-false}
 use Rattle.checks.proofs.RulePairs.{fields_ok_is}
 use Rattle.checks.specs.Words.{agrees_so_far}
 use Rattle.definition.specs.Book.{slots}
-use Rattle.definition.specs.Lists.{upto, all, each}
+use Rattle.definition.specs.Lists.{upto, all}
 use Rattle.laws.specs.Turns.{upto_next, upto_stop}
 use borrow.Author.Rules.{rules}
 use Rattle.checks.proofs.fields.fields_ok.Goals as goal

@@ -1,14 +1,10 @@
 -- Each rule passed agrees with those up to it.
-use Prim.Native.Nat.{ℕ, ◌-◌, ◌≤◌}
-use mathlib.Core.Path.{◌≡◌, sym, ap, ◌∙◌}
+use Prim.Native.Nat.{◌-◌, ◌≤◌}
+use mathlib.Core.Path.{◌≡◌}
 use mathlib.Core.Bool.{true}
-use native.Mathlib.Omega.{arith}
-use borrow.Author.Tests.{not-true, not-false}
-use Rattle.checks.proofs.RulePairs.{fields_ok_is}
 use Rattle.checks.specs.Words.{agrees_so_far}
 use Rattle.definition.specs.Book.{slots}
-use Rattle.definition.specs.Lists.{upto, all, each}
-use Rattle.laws.specs.Turns.{upto_next, upto_stop}
+use Rattle.definition.specs.Lists.{upto, all}
 use Rattle.checks.proofs.fields.fields_ok.Given as goal
 
 abbrev pub invariant-loop-i : goal.invariant-loop-i

@@ -1,10 +1,8 @@
 -- The constraints of rule `i` that are passed agree with all of rule `j`.
-use Prim.Native.Nat.{ℕ, ◌-◌, ◌≤◌}
+use Prim.Native.Nat.{ℕ}
 use mathlib.Core.Path.{◌≡◌, sym, ap, ◌∙◌}
-use mathlib.Core.Bool.{true}
 use mathlib.Core.List.{map}
 use native.Mathlib.Omega.{arith}
-use borrow.Author.Tests.{not-true, not-false}
 use Rattle.checks.specs.Words.{rules_agree}
 use Rattle.definition.specs.Accept.{agrees_with}
 use Rattle.definition.specs.Book.{slots}

@@ -1,16 +1,12 @@
 -- The constraints of rule `i` that are passed agree with all of rule `j`.
-use Prim.Native.Nat.{ℕ, ◌-◌, ◌≤◌}
-use mathlib.Core.Path.{◌≡◌, sym, ap, ◌∙◌}
+use Prim.Native.Nat.{◌-◌, ◌≤◌}
+use mathlib.Core.Path.{◌≡◌}
 use mathlib.Core.Bool.{true}
 use mathlib.Core.List.{map}
-use native.Mathlib.Omega.{arith}
-use borrow.Author.Tests.{not-true, not-false}
-use Rattle.checks.specs.Words.{rules_agree}
 use Rattle.definition.specs.Accept.{agrees_with}
 use Rattle.definition.specs.Book.{slots}
 use Rattle.definition.specs.Lists.{upto, all}
 use Rattle.definition.specs.Tables.{constraint_at, rule_at}
-use Rattle.laws.specs.Turns.{mapped_next, mapped_stop}
 use Rattle.checks.proofs.fields.rules_agree.Given as goal
 
 abbrev pub invariant-loop-k : goal.invariant-loop-k

@@ -1,14 +1,12 @@
 -- None of the constraints passed grants it.
-use Prim.Native.Nat.{ℕ, ◌-◌, ◌≤◌}
-use mathlib.Core.Path.{◌≡◌, sym, ap, ◌∙◌}
+use Prim.Native.Nat.{◌-◌, ◌≤◌}
+use mathlib.Core.Path.{◌≡◌}
 use mathlib.Core.Bool.{false}
 use mathlib.Core.List.{map}
-use native.Mathlib.Omega.{arith}
-use Rattle.definition.specs.Accept.{grants, granted}
+use Rattle.definition.specs.Accept.{grants}
 use Rattle.definition.specs.Book.{slots}
 use Rattle.definition.specs.Lists.{upto, any}
-use Rattle.definition.specs.Tables.{site_at, constraint_at, rule_at}
-use Rattle.laws.specs.Turns.{search_next, search_hit}
+use Rattle.definition.specs.Tables.{site_at, constraint_at}
 use Rattle.checks.proofs.reach.granted.Given as goal
 
 abbrev pub invariant-loop-k : goal.invariant-loop-k

@@ -1,9 +1,9 @@
 -- The sites passed are marked.
-use Prim.Native.Nat.{ℕ, ◌+◌, ◌-◌, ◌≤◌}
+use Prim.Native.Nat.{ℕ, ◌+◌}
 use mathlib.Core.Path.{◌≡◌, sym, subst}
 use mathlib.Core.List.{map}
 use native.Mathlib.Omega.{arith}
-use lib.ListN.{length, set}
+use lib.ListN.{set}
 use Rattle.checks.proofs.Marking.{marked_nothing, marked_more}
 use Rattle.checks.specs.Marks.{stepped, Marked}
 use Rattle.definition.specs.Lists.{upto}

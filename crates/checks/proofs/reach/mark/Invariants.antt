@@ -1,10 +1,8 @@
 -- The sites passed are marked.
-use Prim.Native.Nat.{ℕ, ◌+◌, ◌-◌, ◌≤◌}
-use mathlib.Core.Path.{◌≡◌, sym, subst}
+use Prim.Native.Nat.{◌-◌, ◌≤◌}
+use mathlib.Core.Path.{◌≡◌}
 use mathlib.Core.List.{map}
-use native.Mathlib.Omega.{arith}
-use lib.ListN.{length, set}
-use Rattle.checks.proofs.Marking.{marked_nothing, marked_more}
+use lib.ListN.{length}
 use Rattle.checks.specs.Marks.{stepped, Marked}
 use Rattle.definition.specs.Lists.{upto}
 use Rattle.checks.proofs.reach.mark.Given as goal

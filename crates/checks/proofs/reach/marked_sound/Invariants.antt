@@ -1,10 +1,7 @@
 -- What is marked below the site decides as all marks did.
-use Prim.Native.Nat.{ℕ, ◌-◌, ◌≤◌}
-use mathlib.Core.Path.{◌≡◌, refl, sym, ap, ◌∙◌}
-use native.Mathlib.Omega.{arith}
-use borrow.Author.Tests.{not-true, not-false}
+use Prim.Native.Nat.{ℕ, ◌≤◌}
+use mathlib.Core.Path.{◌≡◌}
 use lib.ListN.{length}
-use Rattle.checks.proofs.Visits.{visit_fails, visit_passes}
 use Rattle.checks.specs.Marks.{pending}
 use Rattle.definition.specs.Accept.{sound_from}
 use Rattle.definition.specs.Book.{slots}

@@ -1,9 +1,7 @@
 -- The rules passed are sound.
-use Prim.Native.Nat.{ℕ, ◌-◌, ◌≤◌}
+use Prim.Native.Nat.{ℕ}
 use mathlib.Core.Path.{◌≡◌, sym, ap, ◌∙◌}
-use mathlib.Core.Bool.{true}
 use native.Mathlib.Omega.{arith}
-use borrow.Author.Tests.{not-true, not-false}
 use Rattle.checks.proofs.RuleTests.{rule_passes}
 use Rattle.checks.proofs.Soundness.{sourced, sound_ok_is}
 use Rattle.definition.specs.Accept.{sound}

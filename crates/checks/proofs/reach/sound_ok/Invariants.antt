@@ -1,16 +1,11 @@
 -- The rules passed are sound.
-use Prim.Native.Nat.{ℕ, ◌-◌, ◌≤◌}
-use mathlib.Core.Path.{◌≡◌, sym, ap, ◌∙◌}
+use Prim.Native.Nat.{◌-◌, ◌≤◌}
+use mathlib.Core.Path.{◌≡◌}
 use mathlib.Core.Bool.{true}
-use native.Mathlib.Omega.{arith}
-use borrow.Author.Tests.{not-true, not-false}
-use Rattle.checks.proofs.RuleTests.{rule_passes}
-use Rattle.checks.proofs.Soundness.{sourced, sound_ok_is}
 use Rattle.definition.specs.Accept.{sound}
 use Rattle.definition.specs.Book.{slots}
 use Rattle.definition.specs.Lists.{upto, all}
 use Rattle.definition.specs.Tables.{rule_at, book_of}
-use Rattle.laws.specs.Turns.{upto_next, upto_stop}
 use Rattle.checks.proofs.reach.sound_ok.Given as goal
 
 abbrev pub invariant-loop-i : goal.invariant-loop-i

@@ -2,7 +2,6 @@
 use Prim.Native.Nat.{◌+◌, ◌*◌}
 use mathlib.Core.Path.{sym, ◌∙◌}
 use native.Mathlib.Omega.{arith}
-use borrow.Author.Tests.{not-true, not-false}
 use Rattle.checks.proofs.Marking.{marked_as, marked_count}
 use Rattle.checks.proofs.Visits.{visit_unmarked, visit_refused, visit_marked, source_word, sources_judged}
 use Rattle.checks.specs.Marks.{stepped}

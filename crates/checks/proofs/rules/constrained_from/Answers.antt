@@ -1,11 +1,11 @@
 -- What is left to look at decides as the whole does.
-use Prim.Native.Nat.{ℕ, ◌+◌, ◌-◌, ◌*◌, ◌≤◌}
-use mathlib.Core.Path.{◌≡◌, sym, ap, ◌∙◌}
+use Prim.Native.Nat.{ℕ, ◌+◌, ◌*◌}
+use mathlib.Core.Path.{sym, ap, ◌∙◌}
 use mathlib.Core.List.{List, map}
 use native.Mathlib.Omega.{arith}
 use borrow.Author.Tests.{eq-eqb, ne_eqb}
 use Rattle.definition.specs.Book.{slots, is_on}
-use Rattle.definition.specs.Lists.{from, any}
+use Rattle.definition.specs.Lists.{any}
 use Rattle.definition.specs.Tables.{rule_word, constraint_at}
 use Rattle.laws.specs.Asks.{in_range}
 use borrow.Author.Rules.{rules}

@@ -1,13 +1,10 @@
 -- What is left to look at decides as the whole does.
-use Prim.Native.Nat.{ℕ, ◌+◌, ◌-◌, ◌*◌, ◌≤◌}
-use mathlib.Core.Path.{◌≡◌, sym, ap, ◌∙◌}
-use mathlib.Core.List.{List, map}
-use native.Mathlib.Omega.{arith}
-use borrow.Author.Tests.{eq-eqb, ne_eqb}
+use Prim.Native.Nat.{◌-◌, ◌≤◌}
+use mathlib.Core.Path.{◌≡◌}
+use mathlib.Core.List.{map}
 use Rattle.definition.specs.Book.{slots, is_on}
 use Rattle.definition.specs.Lists.{from, any}
-use Rattle.definition.specs.Tables.{rule_word, constraint_at}
-use Rattle.laws.specs.Asks.{in_range}
+use Rattle.definition.specs.Tables.{constraint_at}
 use Rattle.checks.proofs.rules.constrained_from.Given as goal
 
 abbrev pub invariant-loop-j : goal.invariant-loop-j

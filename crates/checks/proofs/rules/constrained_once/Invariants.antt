@@ -1,15 +1,11 @@
 -- What is left decides as the whole does: the first constraint of it is on no later one's site, and so on.
-use Prim.Native.Nat.{ℕ, ◌+◌, ◌-◌, ◌≤◌}
-use mathlib.Core.Path.{◌≡◌, refl, sym, ap, ◌∙◌}
-use mathlib.Core.Bool.{not}
-use mathlib.Core.List.{List, map}
-use native.Mathlib.Omega.{arith}
+use Prim.Native.Nat.{◌-◌, ◌≤◌}
+use mathlib.Core.Path.{◌≡◌}
+use mathlib.Core.List.{map}
 use Rattle.definition.specs.Accept.{once}
-use Rattle.definition.specs.Book.{slots, is_on}
-use Rattle.definition.specs.Lists.{from, upto, any}
+use Rattle.definition.specs.Book.{slots}
+use Rattle.definition.specs.Lists.{from, upto}
 use Rattle.definition.specs.Tables.{constraint_at}
-use Rattle.laws.specs.Answers.{and_first, and_rest}
-use Rattle.laws.specs.Asks.{in_range}
 use Rattle.checks.proofs.rules.constrained_once.Given as goal
 
 abbrev pub invariant-loop-k : goal.invariant-loop-k

@@ -1,10 +1,8 @@
 -- The constraints passed are right.
-use Prim.Native.Nat.{ℕ, ◌-◌, ◌≤◌}
+use Prim.Native.Nat.{ℕ}
 use mathlib.Core.Path.{◌≡◌, sym, ap, ◌∙◌}
-use mathlib.Core.Bool.{true}
 use mathlib.Core.List.{map}
 use native.Mathlib.Omega.{arith}
-use borrow.Author.Tests.{not-true, not-false}
 use Rattle.definition.specs.Accept.{constraint_ok}
 use Rattle.definition.specs.Book.{slots}
 use Rattle.definition.specs.Lists.{upto, all}

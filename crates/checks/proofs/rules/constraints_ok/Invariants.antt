@@ -1,15 +1,12 @@
 -- The constraints passed are right.
-use Prim.Native.Nat.{ℕ, ◌-◌, ◌≤◌}
-use mathlib.Core.Path.{◌≡◌, sym, ap, ◌∙◌}
+use Prim.Native.Nat.{◌-◌, ◌≤◌}
+use mathlib.Core.Path.{◌≡◌}
 use mathlib.Core.Bool.{true}
 use mathlib.Core.List.{map}
-use native.Mathlib.Omega.{arith}
-use borrow.Author.Tests.{not-true, not-false}
 use Rattle.definition.specs.Accept.{constraint_ok}
 use Rattle.definition.specs.Book.{slots}
 use Rattle.definition.specs.Lists.{upto, all}
 use Rattle.definition.specs.Tables.{constraint_at}
-use Rattle.laws.specs.Turns.{mapped_next, mapped_stop}
 use Rattle.checks.proofs.rules.constraints_ok.Given as goal
 
 abbrev pub invariant-loop-k : goal.invariant-loop-k

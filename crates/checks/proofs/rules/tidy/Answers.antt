@@ -1,7 +1,6 @@
 -- Each of the three lists is looked at behind its count.
 use Prim.Native.Nat.{ℕ, ◌+◌, ◌-◌, ◌*◌}
 use mathlib.Core.Path.{sym, ap, ◌∙◌}
-use borrow.Author.Tests.{not-true, not-false}
 use Rattle.definition.specs.Book.{slots}
 use Rattle.definition.specs.Tables.{rule_words, zero_from, rule_tidy}
 use Rattle.laws.specs.Answers.{every_stop, every_rest, every_one}

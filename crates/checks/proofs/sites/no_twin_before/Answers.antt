@@ -1,7 +1,7 @@
 -- None of the sites passed is a twin.
-use Prim.Native.Nat.{ℕ, ◌-◌, ◌≤◌}
+use Prim.Native.Nat.{ℕ}
 use mathlib.Core.Path.{◌≡◌, sym, ap, ◌∙◌}
-use mathlib.Core.Bool.{true, not}
+use mathlib.Core.Bool.{not}
 use native.Mathlib.Omega.{arith}
 use Rattle.checks.specs.Words.{twinless}
 use Rattle.definition.specs.Lists.{upto, all}

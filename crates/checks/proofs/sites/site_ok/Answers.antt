@@ -3,7 +3,6 @@ use Prim.Native.Nat.{ℕ}
 use mathlib.Core.Path.{◌≡◌, sym, ap, ◌∙◌}
 use mathlib.Core.List.{map}
 use native.Mathlib.Omega.{arith}
-use borrow.Author.Tests.{not-true, not-false}
 use Rattle.checks.proofs.Shape.{shape_count}
 use Rattle.checks.proofs.SiteTests.{shape_is}
 use Rattle.checks.specs.Words.{shape_words, site_fine}

@@ -1,9 +1,7 @@
 -- The sites passed are fine.
-use Prim.Native.Nat.{ℕ, ◌-◌, ◌≤◌}
+use Prim.Native.Nat.{ℕ}
 use mathlib.Core.Path.{◌≡◌, sym, ap, ◌∙◌}
-use mathlib.Core.Bool.{true}
 use native.Mathlib.Omega.{arith}
-use borrow.Author.Tests.{not-true, not-false}
 use Rattle.checks.proofs.SiteTests.{sites_pass_is}
 use Rattle.checks.specs.Words.{site_fine}
 use Rattle.definition.specs.Lists.{upto, all}

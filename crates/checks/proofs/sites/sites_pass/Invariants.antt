@@ -1,13 +1,9 @@
 -- The sites passed are fine.
-use Prim.Native.Nat.{ℕ, ◌-◌, ◌≤◌}
-use mathlib.Core.Path.{◌≡◌, sym, ap, ◌∙◌}
+use Prim.Native.Nat.{◌-◌, ◌≤◌}
+use mathlib.Core.Path.{◌≡◌}
 use mathlib.Core.Bool.{true}
-use native.Mathlib.Omega.{arith}
-use borrow.Author.Tests.{not-true, not-false}
-use Rattle.checks.proofs.SiteTests.{sites_pass_is}
 use Rattle.checks.specs.Words.{site_fine}
 use Rattle.definition.specs.Lists.{upto, all}
-use Rattle.laws.specs.Turns.{upto_next, upto_stop}
 use Rattle.checks.proofs.sites.sites_pass.Given as goal
 
 abbrev pub invariant-loop-s : goal.invariant-loop-s

@@ -1,14 +1,11 @@
 -- The sources passed are smaller.
-use Prim.Native.Nat.{ℕ, ◌-◌, ◌≤◌}
-use mathlib.Core.Path.{◌≡◌, sym, ap, ◌∙◌}
+use Prim.Native.Nat.{◌-◌, ◌≤◌}
+use mathlib.Core.Path.{◌≡◌}
 use mathlib.Core.Bool.{true}
 use mathlib.Core.List.{map}
-use native.Mathlib.Omega.{arith}
-use borrow.Author.Tests.{lt-ltb, le-ltb}
 use Rattle.definition.specs.Accept.{smaller_than}
 use Rattle.definition.specs.Lists.{upto, all}
 use Rattle.definition.specs.Tables.{source_at}
-use Rattle.laws.specs.Turns.{mapped_next, mapped_stop}
 use Rattle.checks.proofs.sites.sources_smaller.Given as goal
 
 abbrev pub invariant-loop-k : goal.invariant-loop-k

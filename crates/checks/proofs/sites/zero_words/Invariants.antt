@@ -1,11 +1,8 @@
 -- The words passed are zero.
 use Prim.Native.Nat.{◌-◌, ◌≤◌}
-use mathlib.Core.Path.{◌≡◌, sym, ap, ◌∙◌}
+use mathlib.Core.Path.{◌≡◌}
 use mathlib.Core.Bool.{true}
-use native.Mathlib.Omega.{arith}
-use borrow.Author.Tests.{eq-eqb, ne_eqb}
-use Rattle.definition.specs.Tables.{is_zero, zero_from}
-use Rattle.laws.specs.Turns.{from_one, from_stop}
+use Rattle.definition.specs.Tables.{zero_from}
 use Rattle.checks.proofs.sites.zero_words.Given as goal
 
 abbrev pub invariant-loop-k : goal.invariant-loop-k

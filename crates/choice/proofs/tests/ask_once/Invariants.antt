@@ -1,14 +1,12 @@
 -- The loop's invariant: the first k places are marked, and the rules of theirs that lack the test have raised `top`.
-use mathlib.Core.Path.{◌≡◌, refl, sym, ap, ◌∙◌}
+use mathlib.Core.Path.{◌≡◌}
 use Prim.Native.Nat.{◌-◌}
-use native.Mathlib.Omega.{arith}
 use lib.ListN.{length}
-use Rattle.laws.specs.Loops.{Filled, fill_starts, fill_turn}
+use Rattle.laws.specs.Loops.{Filled}
 use Rattle.tables.specs.Held.{rank_of, test_of}
 use Rattle.order.specs.Parts.{rule_tests}
-use Rattle.order.proofs.Asks.{held_at, Lacked, lack_starts, lack_turn, lack_ends}
+use Rattle.order.proofs.Asks.{Lacked}
 use Rattle.choice.specs.Worth.{had_at}
-use Rattle.choice.proofs.Answers.{tests_by, had_yes, had_no}
 use Rattle.choice.proofs.tests.ask_once.Given as goal
 
 abbrev pub invariant-loop-k : goal.invariant-loop-k

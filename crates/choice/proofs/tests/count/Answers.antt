@@ -1,11 +1,8 @@
 -- The loop's invariant: n and those from k on that pass are all that pass.
 use mathlib.Core.Path.{◌∙◌}
-use Prim.Native.Nat.{◌-◌}
 use native.Mathlib.Omega.{arith}
-use lib.ListN.{length}
-use Rattle.laws.specs.Runs.{Tallied, tally_starts, tally_turn, tally_ends}
+use Rattle.laws.specs.Runs.{tally_starts, tally_turn, tally_ends}
 use Rattle.tables.specs.Held.{test_of}
-use Rattle.order.specs.Parts.{passes_top}
 use Rattle.order.proofs.Asks.{held_at}
 use Rattle.choice.proofs.Answers.{passes_told, counted_all}
 use Rattle.choice.proofs.tests.count.Goals as goal

@@ -1,6 +1,5 @@
 -- The tests of the definition, one after another.
 use mathlib.Core.Path.{refl, sym, ◌∙◌}
-use borrow.Author.Tests.{not-true, not-false}
 use Rattle.choice.proofs.Answers.{shut, open_one, open_two}
 use Rattle.choice.proofs.tests.is_open.Goals as goal
 

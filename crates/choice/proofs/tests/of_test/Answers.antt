@@ -1,7 +1,6 @@
 -- A test that is shut, counts nothing or could not be better adds nothing.
 use mathlib.Core.Path.{sym, ap, ◌∙◌}
 use Prim.Native.Nat.{max}
-use borrow.Author.Tests.{not-true, not-false}
 use Rattle.choice.proofs.Answers.{test_shut, test_none, test_behind, test_some}
 use Rattle.choice.proofs.tests.of_test.Goals as goal
 

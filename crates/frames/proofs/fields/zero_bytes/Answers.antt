@@ -1,5 +1,5 @@
 -- The bytes passed are zero.
-use Rattle.std.proofs.Common.{◌≡◌, ◌-◌, ◌≤◌, true, sym, ap, ◌∙◌, arith, rules, eq-eqb, ne_eqb}
+use Rattle.std.proofs.Common.{◌≡◌, sym, ap, ◌∙◌, arith, rules, eq-eqb, ne_eqb}
 use Rattle.definition.specs.Tables.{is_zero, zero_from}
 use Rattle.laws.specs.Turns.{from_one, from_stop}
 use borrow.Author.Rules.{rules}

@@ -1,7 +1,6 @@
 -- The bytes passed are zero.
-use Rattle.std.proofs.Common.{◌≡◌, ◌-◌, ◌≤◌, true, sym, ap, ◌∙◌, arith, rules, eq-eqb, ne_eqb}
-use Rattle.definition.specs.Tables.{is_zero, zero_from}
-use Rattle.laws.specs.Turns.{from_one, from_stop}
+use Rattle.std.proofs.Common.{◌≡◌, ◌-◌, ◌≤◌, true}
+use Rattle.definition.specs.Tables.{zero_from}
 use Rattle.frames.proofs.fields.zero_bytes.Given as goal
 
 abbrev pub invariant-loop-k : goal.invariant-loop-k

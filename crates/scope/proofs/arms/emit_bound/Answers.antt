@@ -1,13 +1,8 @@
 -- The loop's invariant: the sites below x are passed as the definition's pass does it.
 use mathlib.Core.Path.{sym, ◌∙◌}
-use mathlib.Core.Logic.{⊎_elim}
-use Prim.Native.Nat.{◌-◌, ◌≤◌}
 use native.Mathlib.Omega.{arith}
-use Rattle.definition.specs.Book.{Book}
-use Rattle.definition.specs.Scope.{emitted, bound_by, emit_bound}
-use Rattle.tables.specs.Held.{shown}
-use Rattle.scope.specs.Drawn.{Drawn}
-use Rattle.scope.proofs.Sweeps.{Swept, sweep_starts, sweep_hit, sweep_skip, sweep_ends}
+use Rattle.definition.specs.Scope.{emit_bound}
+use Rattle.scope.proofs.Sweeps.{sweep_starts, sweep_hit, sweep_skip, sweep_ends}
 use Rattle.scope.proofs.Binds.{bound_is}
 use Rattle.scope.proofs.arms.emit_bound.Goals as goal
 use Rattle.scope.proofs.arms.emit_bound.Goals.{then-is_bound, else-is_bound}
@@ -22,9 +17,13 @@ pub set_ready-requires : goal.set_ready-requires
 set_ready-requires c = omega (arith, c.requires.few, c.loop-x-test.true)
 
 pub loop-x-preserved : goal.loop-x-preserved
-loop-x-preserved c = (omega (arith, c.loop-x-test.true), λ b d. elim c.if-is_bound.branch [
-    then-is_bound w ↦ rw w.next-is (sweep_hit (c.loop-x.invariant.1 b d) (bound_is b _ _ _ _ (d.at _ c.loop-x-test.true) (sym c.is_bound.ensures ∙ w.if-is_bound.true)) w.set_ready.ensures)
-  | else-is_bound w ↦ rw w.next-is (sweep_skip (c.loop-x.invariant.1 b d) (bound_is b _ _ _ _ (d.at _ c.loop-x-test.true) (sym c.is_bound.ensures ∙ w.if-is_bound.false))) ])
+loop-x-preserved c = (
+  omega (arith, c.loop-x-test.true),
+  λ b d. elim c.if-is_bound.branch [
+    | then-is_bound w ↦ rw w.next-is (sweep_hit (c.loop-x.invariant.1 b d) (bound_is b _ _ _ _ (d.at _ c.loop-x-test.true) (sym c.is_bound.ensures ∙ w.if-is_bound.true)) w.set_ready.ensures)
+    | else-is_bound w ↦ rw w.next-is (sweep_skip (c.loop-x.invariant.1 b d) (bound_is b _ _ _ _ (d.at _ c.loop-x-test.true) (sym c.is_bound.ensures ∙ w.if-is_bound.false)))
+  ],
+)
 
 pub returns : goal.returns
 unfolding emit_bound

@@ -1,14 +1,10 @@
 -- The loop's invariant: the sites below x are passed as the definition's pass does it.
-use mathlib.Core.Path.{sym, ◌∙◌}
-use mathlib.Core.Logic.{⊎_elim}
 use Prim.Native.Nat.{◌-◌, ◌≤◌}
-use native.Mathlib.Omega.{arith}
 use Rattle.definition.specs.Book.{Book}
-use Rattle.definition.specs.Scope.{emitted, bound_by, emit_bound}
+use Rattle.definition.specs.Scope.{emitted, bound_by}
 use Rattle.tables.specs.Held.{shown}
 use Rattle.scope.specs.Drawn.{Drawn}
-use Rattle.scope.proofs.Sweeps.{Swept, sweep_starts, sweep_hit, sweep_skip, sweep_ends}
-use Rattle.scope.proofs.Binds.{bound_is}
+use Rattle.scope.proofs.Sweeps.{Swept}
 use Rattle.scope.proofs.arms.emit_bound.Given as goal
 
 abbrev pub invariant-loop-x : goal.invariant-loop-x

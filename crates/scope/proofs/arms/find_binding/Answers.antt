@@ -1,12 +1,7 @@
 -- The loop's invariant: the first site that stands at the position is the first one from x on.
 use mathlib.Core.Path.{sym, ◌∙◌}
-use mathlib.Core.Logic.{⊎_elim}
-use Prim.Native.Nat.{◌-◌, ◌≤◌}
 use native.Mathlib.Omega.{arith}
-use Rattle.definition.specs.Book.{Book}
-use Rattle.tables.specs.Held.{shown}
-use Rattle.scope.specs.Drawn.{Drawn}
-use Rattle.scope.proofs.Binds.{bound_kind, stands_here, stands_elsewhere, not_bound, Seeking, seeking_starts, seeking_skip, seeking_hit, seeking_ends}
+use Rattle.scope.proofs.Binds.{bound_kind, stands_here, stands_elsewhere, not_bound, seeking_starts, seeking_skip, seeking_hit, seeking_ends}
 use Rattle.scope.proofs.arms.find_binding.Goals as goal
 use Rattle.scope.proofs.arms.find_binding.Goals.{then-is_bound+else-bound_position-k, else-is_bound}
 
@@ -26,9 +21,13 @@ pub returns-then-bound_position-k : goal.returns-then-bound_position-k
 returns-then-bound_position-k c = λ b d. seeking_hit (c.loop-x.invariant.1 b d) c.loop-x-test.true (stands_here b _ _ _ _ (d.at _ c.loop-x-test.true) (sym c.is_bound.ensures ∙ c.if-is_bound.true) (sym c.bound_position.ensures ∙ c.if-bound_position-k.true))
 
 pub loop-x-preserved : goal.loop-x-preserved
-loop-x-preserved c = (omega (arith, c.loop-x-test.true), λ b d. seeking_skip (c.loop-x.invariant.1 b d) c.loop-x-test.true (elim c.if-is_bound.branch [
-    then-is_bound+else-bound_position-k w ↦ stands_elsewhere b _ _ _ _ (d.at _ c.loop-x-test.true) (λ q. omega (arith, w.bound_position.ensures, w.if-bound_position-k.false))
-  | else-is_bound w ↦ not_bound b _ _ _ _ (d.at _ c.loop-x-test.true) (sym c.is_bound.ensures ∙ w.if-is_bound.false) ]))
+loop-x-preserved c = (
+  omega (arith, c.loop-x-test.true),
+  λ b d. seeking_skip (c.loop-x.invariant.1 b d) c.loop-x-test.true (elim c.if-is_bound.branch [
+    | then-is_bound+else-bound_position-k w ↦ stands_elsewhere b _ _ _ _ (d.at _ c.loop-x-test.true) (λ q. omega (arith, w.bound_position.ensures, w.if-bound_position-k.false))
+    | else-is_bound w ↦ not_bound b _ _ _ _ (d.at _ c.loop-x-test.true) (sym c.is_bound.ensures ∙ w.if-is_bound.false)
+  ]),
+)
 
 pub returns : goal.returns
 returns c = λ b d. seeking_ends (c.loop-x.invariant.1 b d) c.loop-x-test.false

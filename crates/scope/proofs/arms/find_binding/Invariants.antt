@@ -1,12 +1,9 @@
 -- The loop's invariant: the first site that stands at the position is the first one from x on.
-use mathlib.Core.Path.{sym, ◌∙◌}
-use mathlib.Core.Logic.{⊎_elim}
 use Prim.Native.Nat.{◌-◌, ◌≤◌}
-use native.Mathlib.Omega.{arith}
 use Rattle.definition.specs.Book.{Book}
 use Rattle.tables.specs.Held.{shown}
 use Rattle.scope.specs.Drawn.{Drawn}
-use Rattle.scope.proofs.Binds.{bound_kind, stands_here, stands_elsewhere, not_bound, Seeking, seeking_starts, seeking_skip, seeking_hit, seeking_ends}
+use Rattle.scope.proofs.Binds.{Seeking}
 use Rattle.scope.proofs.arms.find_binding.Given as goal
 
 abbrev pub invariant-loop-x : goal.invariant-loop-x

@@ -1,7 +1,6 @@
 -- `scope::arms::is_bound` meets its contract: each test that fails makes `binds` false, and the last decides it.
 use mathlib.Core.Path.{sym, ◌∙◌, ap}
 use native.Mathlib.Omega.{arith}
-use borrow.Author.Tests.{not-true, not-false}
 use Rattle.definition.specs.Lists.{◌below◌, same_number}
 use Rattle.definition.specs.Tables.{signed}
 use Rattle.scope.proofs.Binds.{other_kind, other_source, other_pattern, other_number, bound_below}

@@ -1,14 +1,9 @@
 -- The loop's invariant: the words of the places below k are written.
-use mathlib.Core.Path.{◌≡◌, refl, ◌∙◌, ap}
-use Prim.Native.Nat.{◌+◌, ◌-◌, ◌≤◌}
+use mathlib.Core.Path.{refl, ◌∙◌, ap}
 use native.Mathlib.Omega.{arith}
-use lib.ListN.{length}
-use Rattle.definition.specs.Book.{Book}
 use Rattle.definition.specs.Tree.{place_word}
-use Rattle.room.proofs.Written.{Writing, writing_starts, writing_turn, writing_ends, wrote_one, wrote_fits}
-use Rattle.tables.specs.Held.{shown}
-use Rattle.scope.specs.Drawn.{Drawn}
-use Rattle.scope.proofs.Binds.{place_word_at, places_are_words}
+use Rattle.room.proofs.Written.{writing_starts, writing_turn, writing_ends, wrote_one, wrote_fits}
+use Rattle.scope.proofs.Binds.{places_are_words}
 use Rattle.scope.proofs.arms.put_places.Goals as goal
 
 pub loop-k-init : goal.loop-k-init

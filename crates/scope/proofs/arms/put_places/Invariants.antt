@@ -1,14 +1,12 @@
 -- The loop's invariant: the words of the places below k are written.
-use mathlib.Core.Path.{◌≡◌, refl, ◌∙◌, ap}
+use mathlib.Core.Path.{◌≡◌}
 use Prim.Native.Nat.{◌+◌, ◌-◌, ◌≤◌}
-use native.Mathlib.Omega.{arith}
 use lib.ListN.{length}
 use Rattle.definition.specs.Book.{Book}
-use Rattle.definition.specs.Tree.{place_word}
-use Rattle.room.proofs.Written.{Writing, writing_starts, writing_turn, writing_ends, wrote_one, wrote_fits}
+use Rattle.room.proofs.Written.{Writing}
 use Rattle.tables.specs.Held.{shown}
 use Rattle.scope.specs.Drawn.{Drawn}
-use Rattle.scope.proofs.Binds.{place_word_at, places_are_words}
+use Rattle.scope.proofs.Binds.{place_word_at}
 use Rattle.scope.proofs.arms.put_places.Given as goal
 
 abbrev pub invariant-loop-k : goal.invariant-loop-k

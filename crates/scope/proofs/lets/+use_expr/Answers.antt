@@ -1,15 +1,12 @@
 -- `scope::lets::use_expr` meets its contract. The measure is the site's id; the loop's invariant: the sources below k are used, and no more was listed than was marked.
-use mathlib.Core.Path.{◌≡◌, refl, sym, ◌∙◌, ap}
-use Prim.Native.Nat.{ℕ, ◌+◌, ◌-◌, ◌<◌, ◌≤◌}
+use mathlib.Core.Path.{◌≡◌, refl, sym, ◌∙◌}
+use Prim.Native.Nat.{◌-◌, ◌<◌}
 use native.Mathlib.Omega.{arith}
-use lib.ListN.{length, length-set}
-use Rattle.definition.specs.Book.{Book, most}
-use Rattle.definition.specs.Scope.{use_below}
+use lib.ListN.{length}
+use Rattle.definition.specs.Book.{most}
 use Rattle.definition.specs.Tables.{site_at}
-use Rattle.theorems.specs.LetLists.{low}
-use Rattle.scope.specs.Drawn.{Drawn}
 use Rattle.scope.proofs.Drawings.{sites_only, sites_drawn}
-use Rattle.scope.proofs.Uses.{placed_fits, placed_few, Turning, turning_starts, turning_turn, turning_ends, marked_few, from_marked, use_again, use_unlisted, use_listed}
+use Rattle.scope.proofs.Uses.{placed_fits, placed_few, turning_starts, turning_turn, turning_ends, marked_few, from_marked, use_again, use_unlisted, use_listed}
 use borrow.Author.Rules.{rules}
 use Rattle.scope.proofs.lets.+use_expr.Goals as goal
 
@@ -72,4 +69,3 @@ pub returns : goal.returns
 returns t c =
     let long : length c.args.scope.states ≡ most = search rules in
     λ b d f h. use_listed d _ c.requires.1.0 f h _ (omega (arith, long, c.requires.0.few, c.requires.1.0)) (omega (arith, c.if-scope-x-ge-EMITTED.false)) (from_marked c.args.scope c.args.x c.set_ready.ensures (turning_ends (c.loop-k.invariant.1.1.1.1 b d (f - 1) (omega arith)) (omega (arith, c.source_count-sources.ensures.0, c.loop-k-test.false)))) (sym c.never_listed.ensures ∙ c.if-never_listed.false) c.put_word-at.ensures
-

@@ -1,15 +1,13 @@
 -- `scope::lets::use_expr` meets its contract. The measure is the site's id; the loop's invariant: the sources below k are used, and no more was listed than was marked.
-use mathlib.Core.Path.{◌≡◌, refl, sym, ◌∙◌, ap}
-use Prim.Native.Nat.{ℕ, ◌+◌, ◌-◌, ◌<◌, ◌≤◌}
-use native.Mathlib.Omega.{arith}
-use lib.ListN.{length, length-set}
+use mathlib.Core.Path.{◌≡◌}
+use Prim.Native.Nat.{ℕ, ◌+◌, ◌-◌, ◌≤◌}
+use lib.ListN.{length}
 use Rattle.definition.specs.Book.{Book, most}
 use Rattle.definition.specs.Scope.{use_below}
 use Rattle.definition.specs.Tables.{site_at}
 use Rattle.theorems.specs.LetLists.{low}
 use Rattle.scope.specs.Drawn.{Drawn}
-use Rattle.scope.proofs.Drawings.{sites_only, sites_drawn}
-use Rattle.scope.proofs.Uses.{placed_fits, placed_few, Turning, turning_starts, turning_turn, turning_ends, marked_few, from_marked, use_again, use_unlisted, use_listed}
+use Rattle.scope.proofs.Uses.{Turning}
 use Rattle.scope.proofs.lets.+use_expr.Given as goal
 
 abbrev pub decreases-use_expr : goal.decreases-use_expr
@@ -20,4 +18,3 @@ invariant-loop-k l = (l.k ≤ l.sources) × ((length l.room ≡ length l.initial
 
 abbrev pub decreases-loop-k : goal.decreases-loop-k
 decreases-loop-k l = l.sources - l.k
-

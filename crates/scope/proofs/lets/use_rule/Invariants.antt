@@ -1,15 +1,13 @@
 -- The loop's invariant: the impure sites below k are used, and no more was listed than was marked; the result is used after them.
-use mathlib.Core.Path.{◌≡◌, refl, ◌∙◌}
-use Prim.Native.Nat.{suc, ◌+◌, ◌-◌, ◌≤◌}
-use native.Mathlib.Omega.{arith}
+use mathlib.Core.Path.{◌≡◌}
+use Prim.Native.Nat.{◌+◌, ◌-◌, ◌≤◌}
 use lib.ListN.{length}
 use Rattle.definition.specs.Book.{Book, most, slots}
 use Rattle.definition.specs.Scope.{use_site}
 use Rattle.definition.specs.Tables.{rule_at}
 use Rattle.theorems.specs.LetLists.{low}
 use Rattle.scope.specs.Drawn.{Drawn}
-use Rattle.scope.proofs.Drawings.{sites_only, sites_drawn}
-use Rattle.scope.proofs.Uses.{placed_fits, placed_few, placed_site, placed_then, placed_uses, Turning, turning_starts, turning_turn, turning_ends, low_few}
+use Rattle.scope.proofs.Uses.{Turning}
 use Rattle.scope.proofs.lets.use_rule.Given as goal
 
 abbrev pub invariant-loop-k : goal.invariant-loop-k

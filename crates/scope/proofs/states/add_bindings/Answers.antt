@@ -1,12 +1,8 @@
 -- The loop's invariant: the sites below x are passed as the definition's pass does it.
 use mathlib.Core.Path.{sym, ◌∙◌}
-use mathlib.Core.Logic.{⊎_elim}
-use Prim.Native.Nat.{◌-◌, ◌≤◌}
 use native.Mathlib.Omega.{arith}
-use Rattle.definition.specs.Book.{Book}
-use Rattle.definition.specs.Scope.{available, ready, worked_out}
-use Rattle.scope.specs.Drawn.{Drawn}
-use Rattle.scope.proofs.Sweeps.{Swept, sweep_starts, sweep_hit, sweep_skip, sweep_ends}
+use Rattle.definition.specs.Scope.{worked_out}
+use Rattle.scope.proofs.Sweeps.{sweep_starts, sweep_hit, sweep_skip, sweep_ends}
 use Rattle.scope.proofs.states.add_bindings.Goals as goal
 use Rattle.scope.proofs.states.add_bindings.Goals.{then-is_ready, else-is_ready}
 
@@ -20,9 +16,13 @@ pub set_ready-requires : goal.set_ready-requires
 set_ready-requires c = omega (arith, c.requires.few, c.loop-x-test.true)
 
 pub loop-x-preserved : goal.loop-x-preserved
-loop-x-preserved c = (omega (arith, c.loop-x-test.true), λ b d. elim c.if-is_ready.branch [
-    then-is_ready w ↦ rw w.next-is (sweep_hit (c.loop-x.invariant.1 b d) (sym (c.is_ready.ensures b d) ∙ w.if-is_ready.true) w.set_ready.ensures)
-  | else-is_ready w ↦ rw w.next-is (sweep_skip (c.loop-x.invariant.1 b d) (sym (c.is_ready.ensures b d) ∙ w.if-is_ready.false)) ])
+loop-x-preserved c = (
+  omega (arith, c.loop-x-test.true),
+  λ b d. elim c.if-is_ready.branch [
+    | then-is_ready w ↦ rw w.next-is (sweep_hit (c.loop-x.invariant.1 b d) (sym (c.is_ready.ensures b d) ∙ w.if-is_ready.true) w.set_ready.ensures)
+    | else-is_ready w ↦ rw w.next-is (sweep_skip (c.loop-x.invariant.1 b d) (sym (c.is_ready.ensures b d) ∙ w.if-is_ready.false))
+  ],
+)
 
 pub returns : goal.returns
 unfolding worked_out

@@ -1,12 +1,9 @@
 -- The loop's invariant: the sites below x are passed as the definition's pass does it.
-use mathlib.Core.Path.{sym, ◌∙◌}
-use mathlib.Core.Logic.{⊎_elim}
 use Prim.Native.Nat.{◌-◌, ◌≤◌}
-use native.Mathlib.Omega.{arith}
 use Rattle.definition.specs.Book.{Book}
-use Rattle.definition.specs.Scope.{available, ready, worked_out}
+use Rattle.definition.specs.Scope.{available, ready}
 use Rattle.scope.specs.Drawn.{Drawn}
-use Rattle.scope.proofs.Sweeps.{Swept, sweep_starts, sweep_hit, sweep_skip, sweep_ends}
+use Rattle.scope.proofs.Sweeps.{Swept}
 use Rattle.scope.proofs.states.add_bindings.Given as goal
 
 abbrev pub invariant-loop-x : goal.invariant-loop-x

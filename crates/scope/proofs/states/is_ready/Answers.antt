@@ -1,11 +1,7 @@
 -- The loop's invariant: whether all sources from k on are there is whether all are.
-use mathlib.Core.Path.{◌≡◌, refl, sym, ◌∙◌}
-use Prim.Native.Nat.{◌-◌, ◌≤◌}
+use mathlib.Core.Path.{refl, sym, ◌∙◌}
 use native.Mathlib.Omega.{arith}
-use lib.ListN.{drop}
-use Rattle.definition.specs.Lists.{all}
 use Rattle.definition.specs.Scope.{is_there}
-use Rattle.definition.specs.Tables.{site_at}
 use Rattle.laws.specs.Runs.{in_slice}
 use Rattle.laws.specs.Asks.{all_pass, all_fail, all_end}
 use Rattle.scope.proofs.Sweeps.{ready_there, ready_bound, ready_sources, source_there, source_missing}
