@@ -26,7 +26,8 @@ fn is_ready(sites: &[u32], n: usize, states: &[u8; 252], x: usize) -> bool
     if states[x] != UNAVAILABLE {
         return false;
     }
-    if tables::site_kind(sites, x) == 7 {
+    let bound = tables::site_kind(sites, x) == 7;
+    if bound {
         return false;
     }
     let count = tables::source_count(sites, x);

@@ -195,10 +195,12 @@ impl Store {
         }
         let j = rank[wide(a) - 1];
         let k = rank[wide(b) - 1];
-        if j < k {
+        let first_lower = j < k;
+        if first_lower {
             return self.moved(a, b, k);
         }
-        if k < j {
+        let second_lower = k < j;
+        if second_lower {
             return self.moved(b, a, j);
         }
         self.moved(b, a, j + 1)

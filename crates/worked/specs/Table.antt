@@ -77,12 +77,3 @@ table =
     ∷ merge 3 3 gives merging (refused 16)
     ∷ merge 1 2 gives merging (answered done)
     ∷ []
-
--- computed, every row comes to what is due
-pub table_computed : map (λ (r : Row). computed r.call) table ≡ map (λ (r : Row). r.due) table
-unfolding computed
-table_computed = refl
-
--- THE TABLE HOLDS: what the definitions reply to each call is what is due
-pub table_holds : map (λ (r : Row). reply r.call) table ≡ map (λ (r : Row). r.due) table
-table_holds = (λ i. map (λ (r : Row). computed_is r.call i) table) ∙ table_computed

@@ -129,23 +129,23 @@ make_steps-slice_bounds-next_test-count t c = c.loop-taken.invariant.inside
 pub make_steps-next_test-next-requires : goal.make_steps-next_test-next-requires
 make_steps-next_test-next-requires t c = let l = c.loop-taken in (c.requires.book, (rw (tail_part l.order l.taken) l.invariant.rules_left, l.invariant.scope))
 
-pub make_steps-returns-then-next-eq0 : goal.make_steps-returns-then-next-eq0
-make_steps-returns-then-next-eq0 t c = steps_stop c.loop-taken.invariant _ c.next_test-next.ensures c.if-next-eq0.true
+pub make_steps-returns-then-spent : goal.make_steps-returns-then-spent
+make_steps-returns-then-spent t c = steps_stop c.loop-taken.invariant _ c.next_test-next.ensures c.if-spent.true
 
 pub make_steps-overflow_add-end : goal.make_steps-overflow_add-end
 make_steps-overflow_add-end t c = let l = c.loop-taken in record { fits = omega (arith, c.next_test-next.ensures.within, tail_length l.order l.taken, l.invariant.inside, l.invariant.long, few_rules c.requires) }
 
 pub make_steps-make_control_flow-used-requires : goal.make_steps-make_control_flow-used-requires
-make_steps-make_control_flow-used-requires t c = let l = c.loop-taken in (omega (arith, c.decreases), (planning_in c.requires l.invariant.scope (front_part l.invariant _ c.next_test-next.ensures (positive _ c.if-next-eq0.false) _ refl) l.invariant.size (omega (arith, l.invariant.fits, l.invariant.size)), (c.next_test-next.ensures.known (positive _ c.if-next-eq0.false), c.next_test-next.ensures.nested (positive _ c.if-next-eq0.false))))
+make_steps-make_control_flow-used-requires t c = let l = c.loop-taken in (omega (arith, c.decreases), (planning_in c.requires l.invariant.scope (front_part l.invariant _ c.next_test-next.ensures (positive _ c.if-spent.false) _ refl) l.invariant.size (omega (arith, l.invariant.fits, l.invariant.size)), (c.next_test-next.ensures.known (positive _ c.if-spent.false), c.next_test-next.ensures.nested (positive _ c.if-spent.false))))
 
 pub make_steps-overflow_add-count : goal.make_steps-overflow_add-count
 make_steps-overflow_add-count t c = let l = c.loop-taken in record { fits = omega (arith, c.loop-taken-test.true, l.invariant.few, l.invariant.long, few_rules c.requires) }
 
 pub make_steps-loop-taken-smaller : goal.make_steps-loop-taken-smaller
-make_steps-loop-taken-smaller t c = let g = steps_turn c.loop-taken.invariant _ c.next_test-next.ensures (positive _ c.if-next-eq0.false) _ refl c.make_control_flow-used.new.order c.make_control_flow-used.auto.order c.make_control_flow-used.ensures in omega (arith, g.long, c.loop-taken.invariant.long, positive _ c.if-next-eq0.false, c.loop-taken-test.true)
+make_steps-loop-taken-smaller t c = let g = steps_turn c.loop-taken.invariant _ c.next_test-next.ensures (positive _ c.if-spent.false) _ refl c.make_control_flow-used.new.order c.make_control_flow-used.auto.order c.make_control_flow-used.ensures in omega (arith, g.long, c.loop-taken.invariant.long, positive _ c.if-spent.false, c.loop-taken-test.true)
 
 pub make_steps-loop-taken-preserved : goal.make_steps-loop-taken-preserved
-make_steps-loop-taken-preserved t c = steps_turn c.loop-taken.invariant _ c.next_test-next.ensures (positive _ c.if-next-eq0.false) _ refl c.make_control_flow-used.new.order c.make_control_flow-used.auto.order c.make_control_flow-used.ensures
+make_steps-loop-taken-preserved t c = steps_turn c.loop-taken.invariant _ c.next_test-next.ensures (positive _ c.if-spent.false) _ refl c.make_control_flow-used.new.order c.make_control_flow-used.auto.order c.make_control_flow-used.ensures
 
 pub make_steps-returns : goal.make_steps-returns
 make_steps-returns t c = steps_end c.loop-taken.invariant c.loop-taken-test.false

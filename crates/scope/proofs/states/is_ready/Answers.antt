@@ -13,11 +13,11 @@ bounds-states-x c = omega (arith, c.requires.0.few, c.requires.1)
 pub returns-then-states-x-ne-UNAVAILABLE : goal.returns-then-states-x-ne-UNAVAILABLE
 returns-then-states-x-ne-UNAVAILABLE c = λ b d. sym (ready_there d _ _ c.requires.1 (λ q. omega (arith, c.if-states-x-ne-UNAVAILABLE.true)))
 
-pub site_kind-requires : goal.site_kind-requires
-site_kind-requires c = c.requires.0.sited _ c.requires.1
+pub site_kind-bound-requires : goal.site_kind-bound-requires
+site_kind-bound-requires c = c.requires.0.sited _ c.requires.1
 
-pub returns-then-site_kind-eq7 : goal.returns-then-site_kind-eq7
-returns-then-site_kind-eq7 c = λ b d. sym (ready_bound d _ _ c.requires.1 (omega (arith, c.site_kind.ensures)) omega (arith, c.if-states-x-ne-UNAVAILABLE.false))
+pub returns-then-bound : goal.returns-then-bound
+returns-then-bound c = λ b d. sym (ready_bound d _ _ c.requires.1 (omega (arith, c.site_kind-bound.ensures)) omega (arith, c.if-states-x-ne-UNAVAILABLE.false))
 
 pub source_count-count-requires : goal.source_count-count-requires
 source_count-count-requires c = c.requires.0.sited _ c.requires.1
@@ -32,10 +32,10 @@ pub bounds-states-source : goal.bounds-states-source
 bounds-states-source c = omega (arith, c.source.ensures, c.requires.0.lower c.args.x c.loop-k.k c.requires.1 omega (arith, c.source_count-count.ensures.0, c.loop-k-test.true), c.requires.0.few, c.requires.1)
 
 pub returns-then-states-source-eq-UNAVAILABLE : goal.returns-then-states-source-eq-UNAVAILABLE
-returns-then-states-source-eq-UNAVAILABLE c = λ b d. sym (ready_sources d _ _ c.requires.1 (λ q. omega (arith, c.site_kind.ensures, c.if-site_kind-eq7.false)) omega (arith, c.if-states-x-ne-UNAVAILABLE.false) ∙ sym c.loop-k.invariant.1 ∙ all_fail (in_slice _) (is_there c.args.states.now) c.loop-k.k omega (arith, c.source_count-count.ensures.0, c.loop-k-test.true) (source_missing c.args.states.now c.source.ensures c.if-states-source-eq-UNAVAILABLE.true))
+returns-then-states-source-eq-UNAVAILABLE c = λ b d. sym (ready_sources d _ _ c.requires.1 (λ q. omega (arith, c.site_kind-bound.ensures, c.if-bound.false)) omega (arith, c.if-states-x-ne-UNAVAILABLE.false) ∙ sym c.loop-k.invariant.1 ∙ all_fail (in_slice _) (is_there c.args.states.now) c.loop-k.k omega (arith, c.source_count-count.ensures.0, c.loop-k-test.true) (source_missing c.args.states.now c.source.ensures c.if-states-source-eq-UNAVAILABLE.true))
 
 pub loop-k-preserved : goal.loop-k-preserved
 loop-k-preserved c = (omega (arith, c.loop-k-test.true), all_pass (in_slice _) (is_there c.args.states.now) c.loop-k.k omega (arith, c.source_count-count.ensures.0, c.loop-k-test.true) (source_there c.args.states.now c.source.ensures c.if-states-source-eq-UNAVAILABLE.false) ∙ c.loop-k.invariant.1)
 
 pub returns : goal.returns
-returns c = λ b d. sym (ready_sources d _ _ c.requires.1 (λ q. omega (arith, c.site_kind.ensures, c.if-site_kind-eq7.false)) omega (arith, c.if-states-x-ne-UNAVAILABLE.false) ∙ sym c.loop-k.invariant.1 ∙ all_end (in_slice _) (is_there c.args.states.now) c.loop-k.k (omega (arith, c.source_count-count.ensures.0, c.loop-k-test.false)))
+returns c = λ b d. sym (ready_sources d _ _ c.requires.1 (λ q. omega (arith, c.site_kind-bound.ensures, c.if-bound.false)) omega (arith, c.if-states-x-ne-UNAVAILABLE.false) ∙ sym c.loop-k.invariant.1 ∙ all_end (in_slice _) (is_there c.args.states.now) c.loop-k.k (omega (arith, c.source_count-count.ensures.0, c.loop-k-test.false)))

@@ -30,28 +30,28 @@ moved-requires c =
     let long : length c.args.self.root ≡ 252 = search rules in
     (omega (arith, at_x c.requires, at_y c.requires), omega (arith, at_x c.requires, at_y c.requires, long))
 
-pub returns-then-j-k : goal.returns-then-j-k
-returns-then-j-k c =
+pub returns-then-first_lower : goal.returns-then-first_lower
+returns-then-first_lower c =
     let long : length c.args.self.rank ≡ length c.args.self.root = search rules in
     let w = c.wide.ensures in
     let v = c.wide-2.ensures in
     join_second c.requires c.if-a-b.false long c.moved.result
-    (omega (arith, rw (w, v) at c.if-j-k.true))
+    (omega (arith, rw (w, v) at c.if-first_lower.true))
     (rw v at c.moved.ensures)
 
-pub moved-requires-then-k-j : goal.moved-requires-then-k-j
-moved-requires-then-k-j c =
+pub moved-requires-then-second_lower : goal.moved-requires-then-second_lower
+moved-requires-then-second_lower c =
     let long : length c.args.self.root ≡ 252 = search rules in
     (omega (arith, at_x c.requires, at_y c.requires), omega (arith, at_x c.requires, at_y c.requires, long))
 
-pub returns-then-k-j : goal.returns-then-k-j
-returns-then-k-j c =
+pub returns-then-second_lower : goal.returns-then-second_lower
+returns-then-second_lower c =
     let long : length c.args.self.rank ≡ length c.args.self.root = search rules in
     let w = c.wide.ensures in
     let v = c.wide-2.ensures in
-    join_first c.requires c.if-a-b.false long c.moved-then-k-j.result
-    (omega (arith, rw (w, v) at c.if-k-j.true))
-    (rw w at c.moved-then-k-j.ensures)
+    join_first c.requires c.if-a-b.false long c.moved-then-second_lower.result
+    (omega (arith, rw (w, v) at c.if-second_lower.true))
+    (rw w at c.moved-then-second_lower.ensures)
 
 pub overflow_add-j : goal.overflow_add-j
 overflow_add-j c =
@@ -59,7 +59,7 @@ overflow_add-j c =
     let w = c.wide.ensures in
     let v = c.wide-2.ensures in
     -- the two ranks are the same where neither test holds
-    let same : rank_of c.args.self c.args.y ≡ rank_of c.args.self c.args.x = omega (arith, rw (w, v) at c.if-j-k.false, rw (w, v) at c.if-k-j.false) in
+    let same : rank_of c.args.self c.args.y ≡ rank_of c.args.self c.args.x = omega (arith, rw (w, v) at c.if-first_lower.false, rw (w, v) at c.if-second_lower.false) in
     let g = grown c.requires c.if-a-b.false same in
     rw w (omega (arith, long, g))
 
@@ -73,5 +73,5 @@ returns c =
     let long : length c.args.self.rank ≡ length c.args.self.root = search rules in
     let w = c.wide.ensures in
     let v = c.wide-2.ensures in
-    let same : rank_of c.args.self c.args.y ≡ rank_of c.args.self c.args.x = omega (arith, rw (w, v) at c.if-j-k.false, rw (w, v) at c.if-k-j.false) in
+    let same : rank_of c.args.self c.args.y ≡ rank_of c.args.self c.args.x = omega (arith, rw (w, v) at c.if-first_lower.false, rw (w, v) at c.if-second_lower.false) in
     join_tie c.requires c.if-a-b.false long c.moved-2.result same (rw w at c.moved-2.ensures)
