@@ -1,4 +1,8 @@
 // The planner's program: a book on standard input, its tree's words or its refusal on standard output.
-fn main() {
-    console::plan_standard_input();
+#![tactic(auto)]
+
+use std::io;
+
+fn main(rt: HostRuntime) -> io::Result<()> {
+    console::plan_standard_input(&rt)
 }

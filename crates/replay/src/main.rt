@@ -1,11 +1,18 @@
 // Replays case files: plans every case's book, walks every reading, and prints what differs from the answers that the file has.
 // The arguments are the files' names; oracle/casefile.py says what stands in a file. The last line is `cases N readings M differ K`.
+#![tactic(auto)]
+
 mod file;
 mod tell;
 
-ghost use Rattle.std.specs.Prelude.{◌≡◌, length};
+ghost use Rattle.std.specs.Prelude.{◌≡◌, length, IfOk, vec_len};
 
 use plan::Planned;
+use std::alloc::{AllocError, Global};
+use std::fs::File;
+use std::io::{Read, Write};
+use std::rt::{Env, Files};
+use std::{env, io};
 use tell::Told;
 use walk::Walked;
 
@@ -24,7 +31,7 @@ const FRESH: u32 = 2779096485;
 const NONE: u32 = 65535;
 
 // What was counted so far, and whether every file was whole.
-#[derive(Drop)]
+#[derive(Clone, Copy)]
 struct Tally {
     cases: u64,
     readings: u64,
@@ -40,17 +47,17 @@ const MOST_WORDS: usize = 16384;
 const MOST_SITES: usize = 1024;
 
 // Room for the book.
-fn book_room() -> [u8; MOST_BYTES]
-    ensures { 66048 ≡ length result }
+fn book_room(alloc: Global) -> Result<Vec<u8>, AllocError>
+    ensures { IfOk result (λ room. 66048 ≡ vec_len room) }
 {
-    [0u8; MOST_BYTES]
+    Ok(vec![in alloc; 0u8; MOST_BYTES]?)
 }
 
 // Room for the words, those that the file has or those that are planned.
-fn words_room() -> [u32; MOST_WORDS]
-    ensures { 16384 ≡ length result }
+fn words_room(alloc: Global) -> Result<Vec<u32>, AllocError>
+    ensures { IfOk result (λ room. 16384 ≡ vec_len room) }
 {
-    [0u32; MOST_WORDS]
+    Ok(vec![in alloc; 0u32; MOST_WORDS]?)
 }
 
 // Room for a reading's pattern kinds, and below for its numbers and its identities.
@@ -75,9 +82,9 @@ fn identities_room() -> [u32; MOST_SITES]
 // Adds cases, readings and differences to what was counted.
 fn counted(tally: Tally, cases: u64, readings: u64, differ: u64) -> Tally {
     Tally {
-        cases: std::num::wrapping_add_u64(tally.cases, cases),
-        readings: std::num::wrapping_add_u64(tally.readings, readings),
-        differ: std::num::wrapping_add_u64(tally.differ, differ),
+        cases: tally.cases.wrapping_add(cases),
+        readings: tally.readings.wrapping_add(readings),
+        differ: tally.differ.wrapping_add(differ),
         whole: tally.whole,
     }
 }
@@ -94,26 +101,12 @@ fn broken(tally: Tally) -> Tally {
 
 // The room as it is before a book is planned.
 fn refresh(room: &mut [u32]) {
-    let mut k: usize = 0;
-    while k < room.len() {
-        room[k] = FRESH;
-        k += 1;
-    }
+    room.fill(FRESH);
 }
 
 // Word for word.
 fn same_words(a: &[u32], b: &[u32]) -> bool {
-    if a.len() != b.len() {
-        return false;
-    }
-    let mut k: usize = 0;
-    while k < a.len() {
-        if a[k] != b[k] {
-            return false;
-        }
-        k += 1;
-    }
-    true
+    a == b
 }
 
 // The planner's answer as the file has it: a word count, or the refusal with the highest bit set.
@@ -156,59 +149,73 @@ fn same_told(a: Told, b: Told) -> bool {
 }
 
 // How many differences there are in the planner's answer, printed: none or one.
-fn answer_differs(case: usize, wanted: u64, came: u64) -> u64 {
+fn answer_differs(out: &mut impl Write, case: usize, wanted: u64, came: u64) -> io::Result<u64> {
     if came == wanted {
-        return 0;
+        return Ok(0);
     }
-    tell::planned(case, wanted, came);
-    1
+    tell::planned(out, case, wanted, came)?;
+    Ok(1)
 }
 
 // The same of the room, word for word.
-fn room_differs(case: usize, wanted: &[u32], came: &[u32]) -> u64 {
+fn room_differs(
+    out: &mut impl Write,
+    case: usize,
+    wanted: &[u32],
+    came: &[u32],
+) -> io::Result<u64> {
     if same_words(wanted, came) {
-        return 0;
+        return Ok(0);
     }
-    tell::another_room(case);
-    1
+    tell::another_room(out, case)?;
+    Ok(1)
 }
 
 // Plans a book in a fresh room, and prints what differs.
 fn plan_case(
+    out: &mut impl Write,
     case: usize,
     book: &[u8],
     answer: u64,
     wanted: &[u32],
     room: &mut [u32],
     tally: Tally,
-) -> Tally {
+) -> io::Result<Tally> {
     refresh(room);
     let came = planned_word(plan::plan(book, room));
-    let first = answer_differs(case, answer, came);
-    let second = room_differs(case, wanted, room);
-    counted(counted(tally, 0, 0, first), 0, 0, second)
+    let first = answer_differs(out, case, answer, came)?;
+    let second = room_differs(out, case, wanted, room)?;
+    Ok(counted(counted(tally, 0, 0, first), 0, 0, second))
 }
 
 // Reads a reading with its answer, walks the words, and prints what differs.
-fn one_reading(fd: i32, case: usize, reading: usize, words: &[u32], tally: Tally) -> Tally {
+fn one_reading(
+    alloc: Global,
+    out: &mut impl Write,
+    file: &mut impl Read,
+    case: usize,
+    reading: usize,
+    words: &[u32],
+    tally: Tally,
+) -> io::Result<Tally> {
     let mut kinds = kinds_room();
     let mut numbers = numbers_room();
     let mut identities = identities_room();
-    let n = file::bytes(fd, &mut kinds);
-    let m = file::numbers(fd, &mut numbers);
-    let k = file::words(fd, &mut identities);
+    let n = file::bytes(file, &mut kinds);
+    let m = file::numbers(alloc, file, &mut numbers)?;
+    let k = file::words(alloc, file, &mut identities)?;
     if n > MOST_SITES {
-        return broken(tally);
+        return Ok(broken(tally));
     }
     if m > MOST_SITES {
-        return broken(tally);
+        return Ok(broken(tally));
     }
     if k > MOST_SITES {
-        return broken(tally);
+        return Ok(broken(tally));
     }
     let mut last = [0u32; 3];
-    if !file::take_words(fd, &mut last) {
-        return broken(tally);
+    if !file::take_words(alloc, file, &mut last)? {
+        return Ok(broken(tally));
     }
     let wanted = Told {
         answer: last[0],
@@ -217,25 +224,30 @@ fn one_reading(fd: i32, case: usize, reading: usize, words: &[u32], tally: Tally
     };
     let came = told_of(walk::walk(words, &kinds[..n], &numbers[..m], &identities[..k]));
     if same_told(wanted, came) {
-        return counted(tally, 0, 1, 0);
+        return Ok(counted(tally, 0, 1, 0));
     }
-    tell::walked(case, reading, wanted, came);
-    counted(tally, 0, 1, 1)
+    tell::walked(out, case, reading, wanted, came)?;
+    Ok(counted(tally, 0, 1, 1))
 }
 
 // The readings of a case, one behind the other.
-fn readings(fd: i32, case: usize, words: &[u32], tally: Tally) -> Tally {
-    let count = file::next_length(fd);
+fn readings(
+    alloc: Global,
+    out: &mut impl Write,
+    file: &mut impl Read,
+    case: usize,
+    words: &[u32],
+    tally: Tally,
+) -> io::Result<Tally> {
+    let count = file::next_length(file);
     let mut tally = tally;
-    let mut k: usize = 0;
-    while k < count {
-        tally = one_reading(fd, case, k, words, tally);
+    for k in 0..count {
+        tally = one_reading(alloc, out, file, case, k, words, tally)?;
         if !tally.whole {
-            return tally;
+            return Ok(tally);
         }
-        k += 1;
     }
-    tally
+    Ok(tally)
 }
 
 // How many bytes of book stand behind its length.
@@ -244,122 +256,145 @@ fn book_bytes(length: usize) -> usize {
 }
 
 // Reads a case, plans its book if it has one, and walks its readings over the room that the file has.
-fn one_case(fd: i32, case: usize, tally: Tally) -> Tally {
-    let mut book = book_room();
-    let mut wanted = words_room();
-    let mut room = words_room();
-    let length = file::next_length(fd);
+fn one_case(
+    alloc: Global,
+    out: &mut impl Write,
+    file: &mut impl Read,
+    case: usize,
+    tally: Tally,
+) -> io::Result<Tally> {
+    let mut book = book_room(alloc)?;
+    let mut wanted = words_room(alloc)?;
+    let mut room = words_room(alloc)?;
+    let length = file::next_length(file);
     let n = book_bytes(length);
     if n > MOST_BYTES {
-        return broken(tally);
+        return Ok(broken(tally));
     }
-    if !file::take_bytes(fd, n, &mut book) {
-        return broken(tally);
+    if !file::take_bytes(file, n, &mut book) {
+        return Ok(broken(tally));
     }
-    let answer = file::next_length(fd);
-    let m = file::words(fd, &mut wanted);
+    let answer = file::next_length(file);
+    let m = file::words(alloc, file, &mut wanted)?;
     if m > MOST_WORDS {
-        return broken(tally);
+        return Ok(broken(tally));
     }
     if length == NO_BOOK {
-        return readings(fd, case, &wanted[..m], tally);
+        return readings(alloc, out, file, case, &wanted[..m], tally);
     }
     let tally = plan_case(
+        out,
         case,
         &book[..n],
         answer as u64,
         &wanted[..m],
         &mut room[..m],
         tally,
-    );
-    readings(fd, case, &wanted[..m], tally)
+    )?;
+    readings(alloc, out, file, case, &wanted[..m], tally)
 }
 
 // The cases of a file, one behind the other.
-fn cases(fd: i32, count: usize, tally: Tally) -> Tally {
+fn cases(
+    alloc: Global,
+    out: &mut impl Write,
+    file: &mut impl Read,
+    count: usize,
+    tally: Tally,
+) -> io::Result<Tally> {
     let mut tally = tally;
-    let mut k: usize = 0;
-    while k < count {
-        tally = one_case(fd, k, tally);
+    for k in 0..count {
+        tally = one_case(alloc, out, file, k, tally)?;
         if !tally.whole {
-            return tally;
+            return Ok(tally);
         }
         tally = counted(tally, 1, 0, 0);
-        k += 1;
     }
-    tally
+    Ok(tally)
 }
 
 // An open file: its mark, its version, its number of cases, and the cases, with nothing behind them.
-fn one_file(fd: i32, tally: Tally) -> Tally {
+fn one_file(
+    alloc: Global,
+    out: &mut impl Write,
+    file: &mut impl Read,
+    tally: Tally,
+) -> io::Result<Tally> {
     let mut head = [0u32; 3];
-    if !file::take_words(fd, &mut head) {
-        return broken(tally);
+    if !file::take_words(alloc, file, &mut head)? {
+        return Ok(broken(tally));
     }
     if head[0] != MARK {
-        return broken(tally);
+        return Ok(broken(tally));
     }
     if head[1] != VERSION {
-        return broken(tally);
+        return Ok(broken(tally));
     }
-    let tally = cases(fd, tables::wide(head[2]), tally);
-    if console::is_more(fd) {
-        return broken(tally);
+    let tally = cases(alloc, out, file, tables::wide(head[2]), tally)?;
+    if console::is_more(file)? {
+        return Ok(broken(tally));
     }
-    tally
+    Ok(tally)
 }
 
 // The file that an argument names. Where it differs or cannot be replayed, a line names it.
-fn argument(i: usize, before: Tally) -> Tally {
-    let mut name = io::buffer();
-    let n = os::arg(i, &mut name);
-    let fd = os::open_read(&name[..n]);
-    if fd < 0 {
-        tell::of_file(&name[..n], b": cannot be read, whole cases ", 0);
-        return broken(before);
-    }
-    let tally = one_file(fd, before);
-    libc::close(fd);
+fn argument(
+    rt: &(impl Files + AllocGlobal),
+    out: &mut impl Write,
+    name: &str,
+    before: Tally,
+) -> io::Result<Tally> {
+    let Ok(mut file) = File::open(rt, name) else {
+        tell::of_file(out, name.as_bytes(), b": cannot be read, whole cases ", 0)?;
+        return Ok(broken(before));
+    };
+    let tally = one_file(rt.alloc(), out, &mut file, before)?;
+    drop(file);
     if tally.differ != before.differ {
-        let differ = std::num::wrapping_sub_u64(tally.differ, before.differ);
-        tell::of_file(&name[..n], b": differ ", differ);
+        let differ = tally.differ.wrapping_sub(before.differ);
+        tell::of_file(out, name.as_bytes(), b": differ ", differ)?;
     }
     if !tally.whole {
-        let cases = std::num::wrapping_sub_u64(tally.cases, before.cases);
-        tell::of_file(&name[..n], b": damaged or too large, whole cases ", cases);
+        let cases = tally.cases.wrapping_sub(before.cases);
+        tell::of_file(
+            out,
+            name.as_bytes(),
+            b": damaged or too large, whole cases ",
+            cases,
+        )?;
     }
-    tally
+    Ok(tally)
 }
 
 // Every file that an argument names, up to one that cannot be replayed.
-fn arguments(count: usize) -> Tally {
+fn arguments(rt: &(impl Env + Files + AllocGlobal), out: &mut impl Write) -> io::Result<Tally> {
     let mut tally = Tally {
         cases: 0,
         readings: 0,
         differ: 0,
         whole: true,
     };
-    let mut i: usize = 1;
-    while i < count {
-        tally = argument(i, tally);
+    for name in env::args(rt)?.skip(1) {
+        tally = argument(rt, out, name.as_str(), tally)?;
         if !tally.whole {
-            return tally;
+            return Ok(tally);
         }
-        i += 1;
     }
-    tally
+    Ok(tally)
 }
 
 // Prints nothing but the last line where all agrees.
-fn main() {
-    let tally = arguments(os::arg_count());
+fn main(rt: HostRuntime) -> io::Result<()> {
+    let mut out = io::writer(&rt);
+    let tally = arguments(&rt, &mut out)?;
     if tally.whole {
-        tell::text(b"cases ");
-        tell::number(tally.cases);
-        tell::text(b" readings ");
-        tell::number(tally.readings);
-        tell::text(b" differ ");
-        tell::number(tally.differ);
-        tell::text(b"\n");
+        tell::text(&mut out, b"cases ")?;
+        tell::number(&mut out, tally.cases)?;
+        tell::text(&mut out, b" readings ")?;
+        tell::number(&mut out, tally.readings)?;
+        tell::text(&mut out, b" differ ")?;
+        tell::number(&mut out, tally.differ)?;
+        tell::text(&mut out, b"\n")?;
     }
+    Ok(())
 }

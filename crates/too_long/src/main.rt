@@ -1,4 +1,8 @@
 // The planner's program once more, for a standard input of 65,537 bytes.
-fn main() {
-    console::plan_standard_input();
+#![tactic(auto)]
+
+use std::io;
+
+fn main(rt: HostRuntime) -> io::Result<()> {
+    console::plan_standard_input(&rt)
 }
