@@ -1,5 +1,4 @@
-// The worked books of document 01, proved as one table: see specs/Table.antt; and listings of some of them.
+// The worked books of document 01 as one table, specs/Table.antt, and listings of some of them: proofs/ shows that they are so.
 #![tactic(auto)]
-
 
 pub fn nothing() {}
