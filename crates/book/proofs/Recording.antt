@@ -7,7 +7,8 @@ use native.Mathlib.Omega.{arith}
 use lib.ListN.{length, length-append}
 use lib.Seq.{sets}
 use borrow.Author.Tests.{eq-eqb, ne_eqb}
-use Rattle.definition.specs.Lists.{◌is◌, if◌then◌else◌, upto, flat}
+use Rattle.definition.specs.Lists.{◌is◌, upto, flat}
+use Rattle.std.specs.Prelude.{if◌then◌else◌}
 use Rattle.definition.specs.Book.{slots}
 use Rattle.definition.specs.Bytes.{byte, le16, le32, site_fields, constraint_fields, id_field, rule_fields, site_record, rule_record, site_table, rule_table}
 use Rattle.laws.specs.Turns.{flat_length}

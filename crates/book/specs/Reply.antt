@@ -1,6 +1,6 @@
 -- What `read` answers, and what it leaves in the lent tables.
-use Rattle.std.specs.Prelude.{◌≡◌, List, ℕ, ◌*◌, length, take}
-use Rattle.definition.specs.Lists.{◌is◌, if◌then◌else◌}
+use Rattle.std.specs.Prelude.{◌≡◌, List, ℕ, ◌*◌, length, take, if◌then◌else◌}
+use Rattle.definition.specs.Lists.{◌is◌}
 use Rattle.definition.specs.Book.{most, slots}
 use Rattle.definition.specs.Tables.{site_words, rule_words}
 use Rattle.definition.specs.Bytes.{sites_named, rules_named, site_table, rule_table, book_refusal}

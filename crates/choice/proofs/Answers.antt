@@ -9,7 +9,8 @@ use lib.ListN.{length, get_or}
 use borrow.Author.Tests.{eq-eqb, ne_eqb, lt-ltb, le-ltb}
 use Rattle.definition.specs.Book.{most, slots, Rule, linked}
 use Rattle.definition.specs.Choice.{Test, has, testable, on, same}
-use Rattle.definition.specs.Lists.{◌below◌, if◌then◌else◌, filter}
+use Rattle.definition.specs.Lists.{◌below◌, filter}
+use Rattle.std.specs.Prelude.{if◌then◌else◌}
 use Rattle.definition.specs.Tables.{rule_at}
 use Rattle.laws.specs.Greatest.{greatest}
 use Rattle.laws.specs.Members.{filter_all}

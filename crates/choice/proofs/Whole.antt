@@ -11,7 +11,8 @@ use lib.ListN.{length, get_or}
 use borrow.Author.Tests.{ltb-true}
 use Rattle.definition.specs.Book.{most, slots, Pair, Book, rule, linked}
 use Rattle.definition.specs.Choice.{Test, tests, testable, is_open, count, state_of, choice, on, same}
-use Rattle.definition.specs.Lists.{if◌then◌else◌, upto, filter}
+use Rattle.definition.specs.Lists.{upto, filter}
+use Rattle.std.specs.Prelude.{if◌then◌else◌}
 use Rattle.definition.specs.Scope.{matched, Scope}
 use Rattle.definition.specs.Tables.{rule_word, rule_at, book_of}
 use Rattle.laws.specs.Ascending.{asc, mem_index, asc_filter, Within, Distinct, filter_distinct, asc_length}

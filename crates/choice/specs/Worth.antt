@@ -1,10 +1,10 @@
 -- What a test is worth: one number that orders tests as document 01 does, greatest count, then greater state, then Match before Equal, then smaller ids.
 -- A test that is not open or counts no rule is worth 0.
-use Rattle.std.specs.Prelude.{◌≡◌, Bool, ◌&&◌, ◌||◌, not, List, map, ℕ, ◌+◌, ◌-◌, ◌*◌, ◌/◌, ◌%◌, ◌≤◌, ◌<◌, max, min, length, get_or, take}
+use Rattle.std.specs.Prelude.{◌≡◌, Bool, ◌&&◌, ◌||◌, not, List, map, ℕ, ◌+◌, ◌-◌, ◌*◌, ◌/◌, ◌%◌, ◌≤◌, ◌<◌, max, min, length, get_or, take, if◌then◌else◌}
 use Rattle.std.proofs.Math.Option.{Option, none, some}
 use Rattle.definition.specs.Book.{most, slots, Pair, Rule, linked}
 use Rattle.definition.specs.Choice.{Test, testable, choice, on, same}
-use Rattle.definition.specs.Lists.{◌is◌, ◌below◌, ◌at_most◌, if◌then◌else◌, upto, filter}
+use Rattle.definition.specs.Lists.{◌is◌, ◌below◌, ◌at_most◌, upto, filter}
 use Rattle.definition.specs.Scope.{matched, state}
 use Rattle.definition.specs.Tables.{rule_word, rule_at, book_of}
 use Rattle.laws.specs.Ascending.{asc, Within, Distinct}

@@ -1,6 +1,5 @@
 // One test: whether it is open, how many rules it counts, and what it is worth.
-ghost use Rattle.std.specs.Prelude.{◌≡◌, ◌&&◌, ◌+◌, ◌<◌, ◌≤◌, max, leb};
-ghost use Rattle.definition.specs.Lists.{if◌then◌else◌};
+ghost use Rattle.std.specs.Prelude.{◌≡◌, ◌&&◌, ◌+◌, ◌<◌, ◌≤◌, max, leb, if◌then◌else◌};
 ghost use Rattle.definition.specs.Book.{most};
 ghost use Rattle.definition.specs.Choice.{testable};
 ghost use Rattle.sets.specs.View.{same_root};

@@ -1,6 +1,6 @@
 -- The tests behind refusals 4 to 8 (document 01, "The book" and "Refusal numbers"), on a book as data. A test that fails gives its number.
-use Rattle.std.specs.Prelude.{Bool, true, ◌&&◌, ◌||◌, not, List, [], ◌∷◌, ◌++◌, map, ℕ, zero, suc, pos, get_or, length}
-use Rattle.definition.specs.Lists.{◌is◌, ◌below◌, ◌at_most◌, ◌implies◌, every, if◌then◌else◌, same_number, upto, heads, all, any, flat}
+use Rattle.std.specs.Prelude.{Bool, true, ◌&&◌, ◌||◌, not, List, [], ◌∷◌, ◌++◌, map, ℕ, zero, suc, pos, get_or, length, if◌then◌else◌}
+use Rattle.definition.specs.Lists.{◌is◌, ◌below◌, ◌at_most◌, ◌implies◌, every, same_number, upto, heads, all, any, flat}
 use Rattle.definition.specs.Book.{Pattern, Pair, Site, Constraint, Rule, Book, pair_slots, impure_slots, site, is_on, constrains}
 
 -- 4: A SITE RECORD BREAKS ITS RULES

@@ -1,7 +1,7 @@
 -- What each public call answers and leaves in lent memory (document 01, "Refusal numbers").
-use Rattle.std.specs.Prelude.{Bool, ◌&&◌, not, List, [], ◌∷◌, ◌++◌, ℕ, suc, length, drop, replicate}
+use Rattle.std.specs.Prelude.{Bool, ◌&&◌, not, List, [], ◌∷◌, ◌++◌, ℕ, suc, length, drop, replicate, if◌then◌else◌}
 use Rattle.std.proofs.Math.Option.{Option, none, some}
-use Rattle.definition.specs.Lists.{◌is◌, ◌below◌, ◌at_most◌, every, if◌then◌else◌, all}
+use Rattle.definition.specs.Lists.{◌is◌, ◌below◌, ◌at_most◌, every, all}
 use Rattle.definition.specs.Book.{most}
 use Rattle.definition.specs.Accept.{smaller_than}
 use Rattle.definition.specs.Bytes.{book_from, book_refusal}

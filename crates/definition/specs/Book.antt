@@ -1,6 +1,6 @@
 -- A book as data (document 01, "The book"): its sites, its rules, and what a rule asks.
-use Rattle.std.specs.Prelude.{Bool, List, [], ◌∷◌, ℕ, ℤ, pos, get_or}
-use Rattle.definition.specs.Lists.{◌is◌, any, if◌then◌else◌}
+use Rattle.std.specs.Prelude.{Bool, List, [], ◌∷◌, ℕ, ℤ, pos, get_or, if◌then◌else◌}
+use Rattle.definition.specs.Lists.{◌is◌, any}
 
 -- S and R are each 0 to 252, so an id is at most 251
 abbrev pub most : ℕ

@@ -1,7 +1,7 @@
 -- What is bound where (document 01, "Walking"): up to each block's first Return no site may be used before it is bound.
-use Rattle.std.specs.Prelude.{Bool, true, false, ◌&&◌, ◌||◌, List, [], ◌∷◌, ℕ, zero, suc, eqb}
+use Rattle.std.specs.Prelude.{Bool, true, false, ◌&&◌, ◌||◌, List, [], ◌∷◌, ℕ, zero, suc, eqb, if◌then◌else◌}
 use Rattle.std.proofs.Math.Option.{Option, none, some}
-use Rattle.definition.specs.Lists.{◌is◌, if◌then◌else◌, all, any}
+use Rattle.definition.specs.Lists.{◌is◌, all, any}
 use Rattle.definition.specs.Book.{Book, site, rule}
 use Rattle.definition.specs.Scope.{never_listed}
 use Rattle.definition.specs.Tree.{Block, Flow, Arms, end, step, match, equal, return, no_arms, arm}

@@ -1,6 +1,6 @@
 -- A book on the line (document 01, "The book"): bytes in blocks, the tests behind refusals 1 to 5, and the refusal of a book.
-use Rattle.std.specs.Prelude.{Bool, ◌&&◌, List, [], ◌∷◌, ◌++◌, map, ℕ, zero, suc, ◌+◌, ◌-◌, ◌*◌, ◌/◌, ◌%◌, ◌^◌, min, get_or, length}
-use Rattle.definition.specs.Lists.{◌is◌, ◌below◌, ◌at_most◌, every, if◌then◌else◌, upto, all, flat}
+use Rattle.std.specs.Prelude.{Bool, ◌&&◌, List, [], ◌∷◌, ◌++◌, map, ℕ, zero, suc, ◌+◌, ◌-◌, ◌*◌, ◌/◌, ◌%◌, ◌^◌, min, get_or, length, if◌then◌else◌}
+use Rattle.definition.specs.Lists.{◌is◌, ◌below◌, ◌at_most◌, every, upto, all, flat}
 use Rattle.definition.specs.Book.{Book, most, slots}
 use Rattle.definition.specs.Tables.{book_of, zero_from, site_tidy, rule_tidy}
 use Rattle.definition.specs.Accept.{sites_ok, rules_ok, lowest, book_tests}

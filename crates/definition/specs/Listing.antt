@@ -1,10 +1,10 @@
 -- The listing of a tree: plain text that fitters and the inspector read, one line a step or arm. A text is a list of bytes.
-use Rattle.std.specs.Prelude.{List, [], ◌∷◌, ◌++◌, ℕ, zero, suc, ◌+◌, ◌/◌, ◌%◌, ℤ, pos, negsuc}
+use Rattle.std.specs.Prelude.{List, [], ◌∷◌, ◌++◌, ℕ, zero, suc, ◌+◌, ◌/◌, ◌%◌, ℤ, pos, negsuc, if◌then◌else◌}
 use Rattle.std.proofs.Math.Option.{Option, none, some}
 use Prim.Native.Char.{code}
 use Prim.Native.String.{String}
 use Prim.Native.String as string
-use Rattle.definition.specs.Lists.{◌below◌, if◌then◌else◌, flat}
+use Rattle.definition.specs.Lists.{◌below◌, flat}
 use Rattle.definition.specs.Tree.{Block, Flow, Arms, end, step, match, equal, return, no_arms, arm}
 use Rattle.definition.specs.Book.{Pattern}
 

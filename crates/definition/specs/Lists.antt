@@ -1,5 +1,5 @@
 -- Tests, comparisons, lists and ranges: the few words that every other file uses. Nothing here is about planning.
-use Rattle.std.specs.Prelude.{Bool, true, false, ◌&&◌, ◌||◌, List, [], ◌∷◌, ◌++◌, ℤ, pos, negsuc, eqb, ltb, leb}
+use Rattle.std.specs.Prelude.{Bool, true, false, ◌&&◌, ◌||◌, List, [], ◌∷◌, ◌++◌, ℤ, pos, negsuc, eqb, ltb, leb, if◌then◌else◌}
 use Rattle.std.proofs.Math.Option.{Option, none, some}
 use Prim.Native.Nat.{ℕ, zero, suc, compare, Ordering}
 use Rattle.std.proofs.Math.Dec.{compare_is_eq}
@@ -27,11 +27,6 @@ false implies y = true
 unfoldable pub every : List Bool → Bool
 every [] = true
 every (x ∷ xs) = x && every xs
-
-infix 10 if◌then◌else◌
-abbrev pub if◌then◌else◌ : {A : Type 0} → Bool → A → A → A
-if true then x else y = x
-if false then x else y = y
 
 -- COMPARISONS. A comparison answers less, equal or greater; where the first says equal, the second decides
 infixr 20 ◌and_then◌

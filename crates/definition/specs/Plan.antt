@@ -1,9 +1,9 @@
 -- Blocks, steps and the tree of a book (document 01, "How a block is made").
-use Rattle.std.specs.Prelude.{Bool, ◌&&◌, not, List, [], ◌∷◌, ◌++◌, map, length}
+use Rattle.std.specs.Prelude.{Bool, ◌&&◌, not, List, [], ◌∷◌, ◌++◌, map, length, if◌then◌else◌}
 use Rattle.std.proofs.Math.Option.{Option, none, some}
 use Prim.Native.Nat.{ℕ, zero, suc, compare, Ordering}
 use Rattle.std.proofs.Math.Dec.{compare_is_eq}
-use Rattle.definition.specs.Lists.{◌is◌, if◌then◌else◌, ◌and_then◌, compare_signed, upto, filter, first}
+use Rattle.definition.specs.Lists.{◌is◌, ◌and_then◌, compare_signed, upto, filter, first}
 use Rattle.definition.specs.Book.{Pattern, Rule, Book, site, rule, pattern_on}
 use Rattle.definition.specs.Scope.{use_all, Scope, root, binds, inside, joining}
 use Rattle.definition.specs.Choice.{Test, on, same, at_least, counted, deferred, choice}

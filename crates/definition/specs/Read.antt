@@ -1,8 +1,8 @@
 -- Words back to a tree; what is no tree is refused with 11 (document 01, "Tree words").
 -- A reader takes words and gives what stands first in them, with the words behind it, or none. `x ← r` goes on with what r read; where r reads none, so does the whole.
-use Rattle.std.specs.Prelude.{Bool, true, false, ◌&&◌, List, [], ◌∷◌, map, ℕ, zero, suc, length, take, drop}
+use Rattle.std.specs.Prelude.{Bool, true, false, ◌&&◌, List, [], ◌∷◌, map, ℕ, zero, suc, length, take, drop, if◌then◌else◌}
 use Rattle.std.proofs.Math.Option.{Option, none, some}
-use Rattle.definition.specs.Lists.{◌is◌, ◌below◌, ◌at_most◌, if◌then◌else◌, all}
+use Rattle.definition.specs.Lists.{◌is◌, ◌below◌, ◌at_most◌, all}
 use Rattle.definition.specs.Book.{Pattern, most}
 use Rattle.definition.specs.Tables.{signed}
 use Rattle.definition.specs.Accept.{pattern_ok}

@@ -1,6 +1,6 @@
 -- States of sites, let lists and scopes (document 01, "Sites and let lists").
-use Rattle.std.specs.Prelude.{Bool, true, false, ◌&&◌, ◌||◌, not, List, [], ◌∷◌, ◌++◌, ℕ, zero, suc, get_or, length, set, replicate}
-use Rattle.definition.specs.Lists.{◌is◌, ◌below◌, every, if◌then◌else◌, same_number, empty, heads, all, each}
+use Rattle.std.specs.Prelude.{Bool, true, false, ◌&&◌, ◌||◌, not, List, [], ◌∷◌, ◌++◌, ℕ, zero, suc, get_or, length, set, replicate, if◌then◌else◌}
+use Rattle.definition.specs.Lists.{◌is◌, ◌below◌, every, same_number, empty, heads, all, each}
 use Rattle.definition.specs.Book.{Pattern, Pair, Site, Book, most, site}
 
 -- STATES, each greater than the one before

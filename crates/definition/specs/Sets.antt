@@ -1,7 +1,7 @@
 -- Disjoint sets of ids (document 01, "Sets"): members, representatives and root ranks, and nothing of links.
-use Rattle.std.specs.Prelude.{Bool, false, List, ℕ, ◌+◌}
+use Rattle.std.specs.Prelude.{Bool, false, List, ℕ, ◌+◌, if◌then◌else◌}
 use Rattle.std.proofs.Math.Option.{Option, none, some}
-use Rattle.definition.specs.Lists.{◌is◌, ◌below◌, if◌then◌else◌, upto, filter}
+use Rattle.definition.specs.Lists.{◌is◌, ◌below◌, upto, filter}
 use Rattle.definition.specs.Book.{most}
 
 -- an id is unmerged, or in the set of this representative, its root, and this rank

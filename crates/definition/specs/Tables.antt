@@ -1,6 +1,6 @@
 -- A book as two tables of 32-bit words (document 01, "The book"): a word a field, in record order, zero bytes left out.
-use Rattle.std.specs.Prelude.{Bool, true, List, [], ◌∷◌, map, ℕ, ◌+◌, ◌-◌, ◌*◌, ℤ, pos, negsuc, get_or}
-use Rattle.definition.specs.Lists.{◌is◌, ◌below◌, if◌then◌else◌, every, all, from, upto}
+use Rattle.std.specs.Prelude.{Bool, true, List, [], ◌∷◌, map, ℕ, ◌+◌, ◌-◌, ◌*◌, ℤ, pos, negsuc, get_or, if◌then◌else◌}
+use Rattle.definition.specs.Lists.{◌is◌, ◌below◌, every, all, from, upto}
 use Rattle.definition.specs.Book.{Pair, Site, Constraint, Rule, Book, pair_slots, impure_slots}
 
 -- word k of a list, 0 behind its end

@@ -1,7 +1,7 @@
 -- Readings, what matches, and the walk (document 01, "Walking").
-use Rattle.std.specs.Prelude.{Bool, ◌&&◌, List, [], ◌∷◌, ◌++◌, ℕ, ℤ, pos, get_or}
+use Rattle.std.specs.Prelude.{Bool, ◌&&◌, List, [], ◌∷◌, ◌++◌, ℕ, ℤ, pos, get_or, if◌then◌else◌}
 use Rattle.std.proofs.Math.Option.{Option, none, some}
-use Rattle.definition.specs.Lists.{◌is◌, if◌then◌else◌, same_number, all}
+use Rattle.definition.specs.Lists.{◌is◌, same_number, all}
 use Rattle.definition.specs.Book.{Pattern, Pair, Constraint, Book, rule}
 use Rattle.definition.specs.Tree.{Block, Flow, Arms, end, step, match, equal, return, no_arms, arm}
 

@@ -1,9 +1,9 @@
 -- Laws of the champion of a list: it is one of the list, and none is greater in what the comparison looks at first.
-use Rattle.std.specs.Prelude.{◌≡◌, refl, ◌⊎◌, Bool, true, false, ℕ, ◌≤◌}
+use Rattle.std.specs.Prelude.{◌≡◌, refl, ◌⊎◌, Bool, true, false, ℕ, ◌≤◌, if◌then◌else◌}
 use Rattle.std.proofs.Common.{inl, inr, le_trans, le_refl}
 use mathlib.Core.List.Memᴰ
 use mathlib.Core.List.{List, [], ◌∷◌, Memᴰ}
-use Rattle.definition.specs.Lists.{if◌then◌else◌, champion}
+use Rattle.definition.specs.Lists.{champion}
 
 module _ {A : Type 0} (better : A → A → Bool) where
   pub champion_in : (x : A) (xs : List A) → Memᴰ (champion better x xs) (x ∷ xs)

@@ -1,10 +1,10 @@
 -- Laws of loops over an array: one that replaces each element by a function of it, one that fills it from the front, and one that collects there.
-use Rattle.std.specs.Prelude.{◌≡◌, refl, ◌⊎◌, true, false, List, [], ◌∷◌, ◌++◌, map, ℕ, zero, suc, ◌+◌, ◌-◌, ◌≤◌, ◌<◌, eqb, get_or, length, set, take, drop, replicate}
+use Rattle.std.specs.Prelude.{◌≡◌, refl, ◌⊎◌, true, false, List, [], ◌∷◌, ◌++◌, map, ℕ, zero, suc, ◌+◌, ◌-◌, ◌≤◌, ◌<◌, eqb, get_or, length, set, take, drop, replicate, if◌then◌else◌}
 use Rattle.std.proofs.Common.{sym, ◌∙◌, ap, inl, inr, arith, add-one, length-append, length-set, ext_get_or, get_or-take, get_or-set_same, get_or-set_other, length-take-le, eqb-true}
 use Rattle.std.proofs.lemmas.List.{length-replicate, get_or-replicate, set_at}
 use Rattle.std.proofs.Math.Seq.{append_snoc}
 use Rattle.std.proofs.lemmas.Bool.{eqb-false}
-use Rattle.definition.specs.Lists.{◌is◌, if◌then◌else◌, upto}
+use Rattle.definition.specs.Lists.{◌is◌, upto}
 use Rattle.laws.specs.Ranges.{from_length, from_at}
 use Rattle.laws.specs.Tests.{split}
 

@@ -1,8 +1,8 @@
 -- Laws of a loop over k below n, from the front. What it has still to do at k is the list `xs k`: element k, then `xs (k + 1)`; from n on nothing.
 -- An invariant says that the answer over the whole list is the answer over `xs k`, put together with what was found so far.
-use Rattle.std.specs.Prelude.{◌≡◌, Bool, true, false, List, [], ◌∷◌, map, ℕ, suc, ◌+◌, ◌-◌, ◌≤◌, ◌<◌, length, get_or, drop}
+use Rattle.std.specs.Prelude.{◌≡◌, Bool, true, false, List, [], ◌∷◌, map, ℕ, suc, ◌+◌, ◌-◌, ◌≤◌, ◌<◌, length, get_or, drop, if◌then◌else◌}
 use Rattle.std.proofs.Common.{ap, add-one, arith, drop_of_length-le, drop-cons}
-use Rattle.definition.specs.Lists.{if◌then◌else◌, from, keep, filter, any, each}
+use Rattle.definition.specs.Lists.{from, keep, filter, any, each}
 
 pub record Runs {A : Type 0} (xs : ℕ → List A) (g : ℕ → A) (n : ℕ) : Type 0 where
   pub more : (k : ℕ) → k < n → xs k ≡ g k ∷ xs (k + 1)

@@ -1,9 +1,9 @@
 -- Laws of totals: each member of a list counts its weight. With the weight 1 the total is the length; with the weight that is 1 at i alone it says how often i stands in the list.
-use Rattle.std.specs.Prelude.{◌≡◌, refl, ◌⊎◌, Bool, true, false, ◌||◌, ℕ, zero, suc, ◌+◌, ◌≤◌, ◌<◌, eqb, length}
+use Rattle.std.specs.Prelude.{◌≡◌, refl, ◌⊎◌, Bool, true, false, ◌||◌, ℕ, zero, suc, ◌+◌, ◌≤◌, ◌<◌, eqb, length, if◌then◌else◌}
 use Rattle.std.proofs.Common.{sym, ◌∙◌, ap, inl, inr, arith, eqb-true, ne_eqb}
 use mathlib.Core.List.{List, [], ◌∷◌, ◌++◌, Memᴰ}
 use Rattle.std.proofs.lemmas.Bool.{eqb-false}
-use Rattle.definition.specs.Lists.{if◌then◌else◌, from, keep, filter}
+use Rattle.definition.specs.Lists.{from, keep, filter}
 use Rattle.laws.specs.Tests.{split}
 
 abbrev pub total : (ℕ → ℕ) → List ℕ → ℕ

@@ -1,10 +1,10 @@
 -- Three-way comparisons of numbers, and the champion that beats every other of a list.
-use Rattle.std.specs.Prelude.{◌≡◌, refl, ◌⊎◌, Bool, true, false, ltb}
+use Rattle.std.specs.Prelude.{◌≡◌, refl, ◌⊎◌, Bool, true, false, ltb, if◌then◌else◌}
 use Rattle.std.proofs.Common.{sym, ap, ◌∙◌, inl, inr, arith, lt-ltb, le-ltb}
 use mathlib.Core.List.Memᴰ
 use mathlib.Core.List.{List, [], ◌∷◌, Memᴰ}
 use Prim.Native.Nat.{ℕ, ◌<◌, compare, Ordering}
-use Rattle.definition.specs.Lists.{if◌then◌else◌, ◌and_then◌, is_less, champion}
+use Rattle.definition.specs.Lists.{◌and_then◌, is_less, champion}
 use Rattle.laws.specs.Orders.{lt_is, lt_of, eq_of, eq_is, gt_of}
 use Rattle.laws.specs.Tests.{split}
 

@@ -1,7 +1,6 @@
 -- What the writers of text promise.
-use Rattle.std.specs.Prelude.{◌≡◌, List, [], ◌∷◌, ◌++◌, ℕ, suc, ◌+◌, ◌^◌, ◌≤◌, ◌<◌, length, take, eqb, ℤ}
+use Rattle.std.specs.Prelude.{◌≡◌, List, [], ◌∷◌, ◌++◌, ℕ, suc, ◌+◌, ◌^◌, ◌≤◌, ◌<◌, length, take, eqb, ℤ, if◌then◌else◌}
 use Rattle.definition.specs.Listing.{text, digits, indent, start, kind_text}
-use Rattle.definition.specs.Lists.{if◌then◌else◌}
 use Rattle.room.specs.Wrote.{Wrote}
 use Rattle.line.specs.declared.Path.{Path}
 

@@ -7,7 +7,8 @@ use Prim.Native.Nat.{ℕ, zero, suc, ◌+◌}
 use native.Mathlib.Omega.{arith}
 use lib.ListN.{get_or}
 use borrow.Author.Tests.{eq-eqb, ne_eqb, eqb-true, eqb-false}
-use Rattle.definition.specs.Lists.{◌is◌, ◌below◌, if◌then◌else◌}
+use Rattle.definition.specs.Lists.{◌is◌, ◌below◌}
+use Rattle.std.specs.Prelude.{if◌then◌else◌}
 use Rattle.definition.specs.Book.{Pair, label, linked}
 use Rattle.definition.specs.Sets.{Class, unmerged, in_set, Sets, same_class, in_same_set, entered, enter, moved, move, join_classes, join, merge}
 use Rattle.laws.specs.Tests.{split, is_sym}

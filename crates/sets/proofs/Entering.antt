@@ -10,7 +10,8 @@ use lib.ListN.{get_or, length, set}
 use lib.Seq.{get_or-set_same, get_or-set_other}
 use borrow.Author.Tests.{eq-eqb, ne_eqb}
 use Rattle.definition.specs.Sets.{Class, unmerged, in_set, Sets, entered, enter}
-use Rattle.definition.specs.Lists.{◌is◌, if◌then◌else◌}
+use Rattle.definition.specs.Lists.{◌is◌}
+use Rattle.std.specs.Prelude.{if◌then◌else◌}
 use Rattle.sets.specs.declared.Store.{Store}
 use Rattle.sets.specs.View.{class_of, read, view, tally, Made, Holds}
 use Rattle.sets.proofs.Tallies.{tally_pos, tally_set}

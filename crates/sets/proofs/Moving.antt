@@ -9,7 +9,8 @@ use lib.Dec.{eqb-suc-suc, eqb-zero-suc}
 use lib.ListN.{get_or, length, set, get_or-map}
 use lib.Seq.{get_or-set_same, get_or-set_other}
 use borrow.Author.Tests.{eq-eqb, ne_eqb}
-use Rattle.definition.specs.Lists.{◌is◌, if◌then◌else◌}
+use Rattle.definition.specs.Lists.{◌is◌}
+use Rattle.std.specs.Prelude.{if◌then◌else◌}
 use Rattle.definition.specs.Sets.{unmerged, in_set, moved, move, remove}
 use Rattle.laws.specs.Loops.{relabel}
 use Rattle.sets.specs.declared.Store.{Store}

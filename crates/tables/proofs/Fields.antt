@@ -1,7 +1,8 @@
 -- The fields of the tables' records, word by word.
 use Rattle.std.proofs.Common.{◌≡◌, ℕ, zero, suc, ◌+◌, ◌<◌, ◌≤◌, true, false, List, map, length, get_or, sym, refl, ap, ◌∙◌, arith, le-ltb, lt-ltb, eq-eqb, ne_eqb}
 use Rattle.definition.specs.Book.{slots}
-use Rattle.definition.specs.Lists.{◌is◌, if◌then◌else◌, upto, empty}
+use Rattle.definition.specs.Lists.{◌is◌, upto, empty}
+use Rattle.std.specs.Prelude.{if◌then◌else◌}
 use Rattle.definition.specs.Scope.{never_listed}
 use Rattle.definition.specs.Tables.{signed, site_word, source_at, site_at, rule_word, constraint_at, pair_at, impure_at, rule_at}
 use Rattle.laws.specs.Turns.{length_map_upto, get_map_upto}

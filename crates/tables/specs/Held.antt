@@ -1,8 +1,8 @@
 -- Which records of the tables may be read, and how words are read as priorities, patterns and tests.
-use Rattle.std.specs.Prelude.{◌≡◌, ℕ, ◌+◌, ◌-◌, ◌*◌, ◌%◌, ◌^◌, ◌<◌, ◌≤◌, Bool, false, ◌||◌, List, map, length, slice_index}
+use Rattle.std.specs.Prelude.{◌≡◌, ℕ, ◌+◌, ◌-◌, ◌*◌, ◌%◌, ◌^◌, ◌<◌, ◌≤◌, Bool, false, ◌||◌, List, map, length, slice_index, if◌then◌else◌}
 use Rattle.definition.specs.Book.{slots, pair_slots, impure_slots, Pattern, Pair, label}
 use Rattle.definition.specs.Choice.{Test, on, same}
-use Rattle.definition.specs.Lists.{◌is◌, if◌then◌else◌, from, any}
+use Rattle.definition.specs.Lists.{◌is◌, from, any}
 use Rattle.definition.specs.Tables.{signed, site_words, site_word, rule_words, rule_word, constraint_start, pair_start, pair_at, rule_at}
 use Rattle.tables.specs.declared.Shape.{Shape}
 

@@ -1,10 +1,9 @@
 -- Classes of sites: what joining pairs comes to, and how many of a rule's pairs are still to be joined.
-use Rattle.std.specs.Prelude.{◌≡◌, refl, ◌⊎◌, Bool, true, false, ℕ, suc, ◌≤◌, ◌<◌, eqb, length}
+use Rattle.std.specs.Prelude.{◌≡◌, refl, ◌⊎◌, Bool, true, false, ℕ, suc, ◌≤◌, ◌<◌, eqb, length, if◌then◌else◌}
 use Rattle.std.proofs.Common.{sym, ◌∙◌, ap, inl, inr, arith, eqb-true, eq-eqb}
 use mathlib.Core.List.Memᴰ
 use mathlib.Core.List.{List, [], ◌∷◌, Memᴰ}
 use Rattle.std.proofs.lemmas.Bool.{eqb-false}
-use Rattle.definition.specs.Lists.{if◌then◌else◌}
 use Rattle.laws.specs.Tests.{split}
 use Rattle.definition.specs.Book.{Pair, label, linked}
 

@@ -1,8 +1,8 @@
 -- Numbers in a listing: the digits read back give the number, -2147483648 included; no zero stands in front, and there is no `-0`.
-use Rattle.std.specs.Prelude.{◌≡◌, refl, ◌⊎◌, true, false, ℕ, zero, suc, ◌+◌, ◌-◌, ◌*◌, ◌/◌, ◌%◌, ◌^◌, ◌<◌, ◌≤◌, ℤ, pos, negsuc, ltb}
+use Rattle.std.specs.Prelude.{◌≡◌, refl, ◌⊎◌, true, false, ℕ, zero, suc, ◌+◌, ◌-◌, ◌*◌, ◌/◌, ◌%◌, ◌^◌, ◌<◌, ◌≤◌, ℤ, pos, negsuc, ltb, if◌then◌else◌}
 use Rattle.std.proofs.Common.{sym, ap, ◌∙◌, inl, inr, arith, lt-ltb, ne_eqb, ltb-true, ltb-false}
 use mathlib.Core.List.{List, [], ◌∷◌, ◌++◌, tail-eq_of_cons-eq, head-eq_of_cons-eq}
-use Rattle.definition.specs.Lists.{◌is◌, if◌then◌else◌}
+use Rattle.definition.specs.Lists.{◌is◌}
 use Rattle.definition.specs.Listing.{text, digit, digits, decimal, magnitude, signed_decimal}
 use Rattle.laws.specs.Tests.{split}
 

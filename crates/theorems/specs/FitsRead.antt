@@ -1,11 +1,11 @@
 -- Every tree that is read from words of 32 bits fits, so two lists of words that are read as different trees have different listings.
-use Rattle.std.specs.Prelude.{◌≡◌, refl, ◌⊎◌, Bool, true, false, ◌&&◌, List, [], ◌∷◌, map, ℤ, pos, ltb, eqb, take, drop}
+use Rattle.std.specs.Prelude.{◌≡◌, refl, ◌⊎◌, Bool, true, false, ◌&&◌, List, [], ◌∷◌, map, ℤ, pos, ltb, eqb, take, drop, if◌then◌else◌}
 use Rattle.std.proofs.Common.{sym, ap, subst, ◌∙◌, inl, inr, arith, ltb-true, ltb-false, leb-true, eq-eqb}
 use Rattle.std.proofs.Math.Option.{Option, none, some}
 use Prim.Native.Nat.{ℕ, zero, suc, ◌^◌, ◌≤◌}
 use Rattle.std.proofs.Math.ListN.{length}
 use Rattle.std.proofs.lemmas.List.{length-map}
-use Rattle.definition.specs.Lists.{◌at_most◌, ◌is◌, same_number, if◌then◌else◌, all}
+use Rattle.definition.specs.Lists.{◌at_most◌, ◌is◌, same_number, all}
 use Rattle.definition.specs.Tables.{signed}
 use Rattle.definition.specs.Accept.{pattern_ok}
 use Rattle.definition.specs.Tree.{Block}

@@ -1,5 +1,5 @@
 -- What stands in a let list: sites of the book, and no more than there are states, since each entry takes one of the states below Emitted.
-use Rattle.std.specs.Prelude.{◌≡◌, ◌⊎◌, Bool, set}
+use Rattle.std.specs.Prelude.{◌≡◌, ◌⊎◌, Bool, set, if◌then◌else◌}
 use Rattle.std.proofs.Math.Path.{refl}
 use Rattle.std.proofs.Common.{◌∙◌, ap, inl, inr, ltb-true, lt-ltb}
 use Rattle.std.proofs.Math.Bool.{true, false}
@@ -9,7 +9,7 @@ use Prim.Native.Nat.{ℕ, zero, suc, ◌+◌, ◌≤◌, ◌<◌}
 use native.Mathlib.Omega.{arith}
 use Rattle.std.proofs.Math.Dec.{ltb}
 use Rattle.std.proofs.Math.ListN.{length, length-set, length-append}
-use Rattle.definition.specs.Lists.{if◌then◌else◌, each}
+use Rattle.definition.specs.Lists.{each}
 use Rattle.definition.specs.Book.{Book, site}
 use Rattle.definition.specs.Scope.{state, Use, never_listed, mark, add_let, use_below, use_site, use_all}
 use Rattle.theorems.specs.Accepted.{Good}

@@ -1,10 +1,10 @@
 -- Parts of lines, read one after the other: where two texts begin with a number, a name or places and are equal, so are the numbers, and so is what follows.
-use Rattle.std.specs.Prelude.{◌≡◌, refl, Bool, true, false, ℕ, zero, suc, ◌+◌, ◌/◌, ◌%◌, ◌^◌, ◌<◌, ◌≤◌, ℤ, pos, negsuc, ltb}
+use Rattle.std.specs.Prelude.{◌≡◌, refl, Bool, true, false, ℕ, zero, suc, ◌+◌, ◌/◌, ◌%◌, ◌^◌, ◌<◌, ◌≤◌, ℤ, pos, negsuc, ltb, if◌then◌else◌}
 use Rattle.std.proofs.Common.{sym, ap, ap₂, ◌∙◌, arith}
 use mathlib.Core.List.{List, [], ◌∷◌, ◌++◌, append_assoc, append_cancel_left, head-eq_of_cons-eq, tail-eq_of_cons-eq}
 use Rattle.std.proofs.Math.Option.{Option, none, some}
 use Prim.Native.String.{String}
-use Rattle.definition.specs.Lists.{if◌then◌else◌, flat}
+use Rattle.definition.specs.Lists.{flat}
 use Rattle.definition.specs.Listing.{text, digit, digits, decimal, field, magnitude, signed_decimal, degrees, kind_text, place_text, places_text}
 use Rattle.theorems.specs.Decimal.{value, decimal_back}
 

@@ -1,12 +1,12 @@
 -- Every rule of a block is returned once in it, and no other: whatever rules weigh, the returned ones weigh as much as the block's.
-use Rattle.std.specs.Prelude.{◌≡◌, refl, Bool, ◌||◌, ℕ, suc, ◌+◌, ◌<◌, length}
+use Rattle.std.specs.Prelude.{◌≡◌, refl, Bool, ◌||◌, ℕ, suc, ◌+◌, ◌<◌, length, if◌then◌else◌}
 use Rattle.std.proofs.Math.Path.{sym, ap, subst}
 use Rattle.std.proofs.Common.{◌∙◌, arith}
 use Rattle.std.proofs.Math.Bool.{true, false, not, false≢true}
 use mathlib.Core.List.{List, [], ◌∷◌, Memᴰ}
 use Prim.Native.Nat.{Ordering}
 use Rattle.std.proofs.Math.Dec.{compare_is_eq}
-use Rattle.definition.specs.Lists.{filter, any, if◌then◌else◌}
+use Rattle.definition.specs.Lists.{filter, any}
 use Rattle.laws.specs.Members.{any_at, any_from}
 use Rattle.definition.specs.Book.{Book, Pattern, rule, constrains, pattern_on, linked}
 use Rattle.definition.specs.Plan.{same_pattern, compare_patterns, tested, uses_of, returns, return_steps, rank, ranked, outranks, patterns, asking, arms, block, asks_for, after, lets_of}

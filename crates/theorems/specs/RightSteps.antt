@@ -1,5 +1,5 @@
 -- Right answers of a Match's arms, of an Equal and of Returns.
-use Rattle.std.specs.Prelude.{◌≡◌, refl, ◌⊎◌, Bool, ℕ, pos, eqb}
+use Rattle.std.specs.Prelude.{◌≡◌, refl, ◌⊎◌, Bool, ℕ, pos, eqb, if◌then◌else◌}
 use Rattle.std.proofs.Math.Path.{sym, subst}
 use Rattle.std.proofs.Common.{◌∙◌, inl, inr, arith}
 use Rattle.std.proofs.Math.Bool.{true, false}
@@ -8,7 +8,7 @@ use mathlib.Core.List.{List, [], ◌∷◌, Memᴰ}
 use Rattle.std.proofs.Math.Option.{Option, none, some}
 use Rattle.std.proofs.Math.ListN.{get_or}
 use borrow.Author.Tests.{eqb-true, eq-eqb, not-true, not-false}
-use Rattle.definition.specs.Lists.{if◌then◌else◌, all}
+use Rattle.definition.specs.Lists.{all}
 use Rattle.laws.specs.Tests.{split, both, clash}
 use Rattle.laws.specs.Members.{all_at, any_at, filter_in, filter_from}
 use Rattle.laws.specs.Signed.{leℤ_refl, leℤ_trans, leℤ_other}

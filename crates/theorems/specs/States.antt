@@ -1,10 +1,10 @@
 -- What the passes over the sites and the uses do to states.
-use Rattle.std.specs.Prelude.{◌≡◌, refl, ◌⊎◌, Bool, true, false, ℕ, zero, suc, ◌+◌, ◌-◌, ◌≤◌, ◌<◌, eqb, ltb, length, set}
+use Rattle.std.specs.Prelude.{◌≡◌, refl, ◌⊎◌, Bool, true, false, ℕ, zero, suc, ◌+◌, ◌-◌, ◌≤◌, ◌<◌, eqb, ltb, length, set, if◌then◌else◌}
 use Rattle.std.proofs.Common.{sym, ◌∙◌, ap, inl, inr, arith, zero-add, suc-add, length-set, get_or-set_same, get_or-set_other, eqb-true, ltb-true, ltb-false}
 use mathlib.Core.List.{List, [], ◌∷◌, Memᴰ}
 use Rattle.std.proofs.Math.Seq.{set_out}
 use Rattle.std.proofs.lemmas.Bool.{eqb-false}
-use Rattle.definition.specs.Lists.{if◌then◌else◌, each}
+use Rattle.definition.specs.Lists.{each}
 use Rattle.laws.specs.Tests.{split}
 use Rattle.definition.specs.Scope.{state, sweep, Use, use_below, mark, add_let}
 use Rattle.definition.specs.Book.{Book, site}

@@ -1,5 +1,5 @@
 -- The words of a book's tree are read back as that tree: every id is a site's or a rule's, and nesting is within its bound.
-use Rattle.std.specs.Prelude.{◌≡◌, ◌⊎◌, Bool, false, ℕ, suc, ◌≤◌, ◌<◌}
+use Rattle.std.specs.Prelude.{◌≡◌, ◌⊎◌, Bool, false, ℕ, suc, ◌≤◌, ◌<◌, if◌then◌else◌}
 use Rattle.std.proofs.Math.Path.{refl}
 use Rattle.std.proofs.Common.{sym, ◌∙◌, ap, inl, inr, arith, lt-ltb, eq-eqb}
 use Rattle.std.proofs.Math.Bool.{true}
@@ -7,7 +7,7 @@ use mathlib.Core.List.Memᴰ
 use mathlib.Core.List.{List, [], ◌∷◌, map, Memᴰ}
 use Rattle.std.proofs.Math.ListN.{length}
 use Rattle.std.proofs.lemmas.List.{length-map}
-use Rattle.definition.specs.Lists.{upto, all, first, keep_first, if◌then◌else◌}
+use Rattle.definition.specs.Lists.{upto, all, first, keep_first}
 use Rattle.laws.specs.Tests.{and}
 use Rattle.laws.specs.Ranges.{from_length}
 use Rattle.laws.specs.Members.{all_from, from_bounds}

@@ -8,7 +8,7 @@ use native.Mathlib.Omega.{arith}
 use lib.Dec.{eqb}
 use lib.IntN.{ℤ}
 use lib.ListN.{length, get_or, drop}
-use Rattle.definition.specs.Lists.{if◌then◌else◌}
+use Rattle.std.specs.Prelude.{if◌then◌else◌}
 use Rattle.definition.specs.Accept.{pattern_ok}
 use Rattle.definition.specs.Tree.{Block}
 use Rattle.definition.specs.Walk.{Reading, Hit, first_hit, hits, flow_hits, walk, agree, placed_in, sites_in, flow_sites}

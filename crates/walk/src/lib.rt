@@ -2,8 +2,8 @@
 // the walk's answer is found on the same way.
 #![tactic(auto)]
 
-ghost use Rattle.std.specs.Prelude.{◌≡◌, true, false, ◌&&◌, not, List, ℕ, ◌+◌, ◌<◌, ◌≤◌, max, length, get_or, drop, pos, eqb};
-ghost use Rattle.definition.specs.Lists.{same_number, if◌then◌else◌};
+ghost use Rattle.std.specs.Prelude.{◌≡◌, true, false, ◌&&◌, not, List, ℕ, ◌+◌, ◌<◌, ◌≤◌, max, length, get_or, drop, pos, eqb, if◌then◌else◌};
+ghost use Rattle.definition.specs.Lists.{same_number};
 ghost use Rattle.definition.specs.Accept.{pattern_ok};
 ghost use Rattle.definition.specs.Walk.{walk as stops, placed_in, sites_in, flow_sites};
 ghost use Rattle.definition.specs.Tables.{signed};
