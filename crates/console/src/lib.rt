@@ -1,18 +1,32 @@
 // What the programs share: a book on standard input, and answers on standard output.
 #![tactic(auto)]
 
-ghost use Rattle.std.specs.Prelude.{◌≡◌, IfOk, vec_len};
+ghost use Rattle.std.specs.Prelude.{◌≡◌, ◌≤◌, IfOk, length};
 
 use plan::Planned;
-use std::alloc::{AllocError, Global};
 use std::io;
 use std::io::{Input, Print, Read, Write};
 
 // Room for the words of a tree, as document 01 gives its program.
-fn words_room(alloc: Global) -> Result<Vec<u32>, AllocError>
-    ensures { IfOk result (λ room. 16384 ≡ vec_len room) }
+fn words_room() -> [u32; 16384]
+    ensures { 16384 ≡ length result }
 {
-    Ok(vec![in alloc; 0u32; 16384]?)
+    [0u32; 16384]
+}
+
+// Fills the buffer from its front with what the input still has, and tells how many bytes came.
+pub fn read_full(input: &mut impl Read, buffer: &mut [u8]) -> io::Result<usize>
+    ensures { IfOk result (λ n. n ≤ length buffer.old) }
+{
+    let mut n: usize = 0;
+    while n < buffer.len() {
+        let got = input.read(&mut buffer[n..])?;
+        if got == 0 {
+            return Ok(n);
+        }
+        n += got;
+    }
+    Ok(n)
 }
 
 // A line of a text and a number.
@@ -68,14 +82,14 @@ fn answer(out: &mut impl Write, book: &[u8], room: &mut [u32]) -> io::Result<()>
 }
 
 // Document 01's program.
-pub fn plan_standard_input(rt: &(impl Input + Print + AllocGlobal)) -> io::Result<()> {
+pub fn plan_standard_input(rt: &(impl Input + Print)) -> io::Result<()> {
     let mut out = io::writer(rt);
     let mut input = rt.reader();
-    let mut book = Vec::new(rt.alloc());
-    input.by_ref().take(65536).read_to_end(&mut book)?;
-    if !is_too_long(&mut out, &mut input, book.len())? {
-        let mut room = words_room(rt.alloc())?;
-        answer(&mut out, &book, &mut room)?;
+    let mut book = [0u8; 65536];
+    let n = read_full(&mut input, &mut book)?;
+    if !is_too_long(&mut out, &mut input, n)? {
+        let mut room = words_room();
+        answer(&mut out, &book[..n], &mut room)?;
     }
     Ok(())
 }

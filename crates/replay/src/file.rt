@@ -1,7 +1,6 @@
 // What stands next in a case file: bytes, and little-endian words. No list is trusted to come whole or to fit.
 ghost use Rattle.std.specs.Prelude.{◌≡◌, ◌+◌, ◌*◌, ◌<◌, ◌≤◌, length};
 
-use std::alloc::{AllocError, Global};
 use std::io::Read;
 
 // The length of a list that does not come whole or does not fit; no room is as long.
@@ -54,17 +53,13 @@ fn words_through(file: &mut impl Read, bytes: &mut [u8], words: &mut [u32]) -> b
 }
 
 // The next words, as many as there is room for, or false where the file ends before or those are more than 16,384.
-pub fn take_words(
-    alloc: Global,
-    file: &mut impl Read,
-    words: &mut [u32],
-) -> Result<bool, AllocError> {
+pub fn take_words(file: &mut impl Read, words: &mut [u32]) -> bool {
     if words.len() > 16384 {
-        return Ok(false);
+        return false;
     }
+    let mut bytes = [0u8; 65536];
     let n = 4 * words.len();
-    let mut bytes = vec![in alloc; 0u8; n]?;
-    Ok(words_through(file, &mut bytes, words))
+    words_through(file, &mut bytes[..n], words)
 }
 
 // The next word, as the length of a list.
@@ -94,15 +89,15 @@ pub fn bytes(file: &mut impl Read, room: &mut [u8]) -> usize {
 }
 
 // A length and as many words. Returns the length.
-pub fn words(alloc: Global, file: &mut impl Read, room: &mut [u32]) -> Result<usize, AllocError> {
+pub fn words(file: &mut impl Read, room: &mut [u32]) -> usize {
     let n = next_length(file);
     if n > room.len() {
-        return Ok(NO_LIST);
+        return NO_LIST;
     }
-    if !take_words(alloc, file, &mut room[..n])? {
-        return Ok(NO_LIST);
+    if !take_words(file, &mut room[..n]) {
+        return NO_LIST;
     }
-    Ok(n)
+    n
 }
 
 // Room for the words of signed numbers.
@@ -113,15 +108,15 @@ fn list_room() -> [u32; 1024]
 }
 
 // A length and as many signed numbers, 1,024 at most. Returns the length.
-pub fn numbers(alloc: Global, file: &mut impl Read, room: &mut [i32]) -> Result<usize, AllocError> {
+pub fn numbers(file: &mut impl Read, room: &mut [i32]) -> usize {
     let mut list = list_room();
-    let n = words(alloc, file, &mut list)?;
+    let n = words(file, &mut list);
     if n > 1024 {
-        return Ok(NO_LIST);
+        return NO_LIST;
     }
     if n > room.len() {
-        return Ok(NO_LIST);
+        return NO_LIST;
     }
     put_numbers(&list[..n], &mut room[..n]);
-    Ok(n)
+    n
 }

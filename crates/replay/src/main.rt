@@ -5,10 +5,9 @@
 mod file;
 mod tell;
 
-ghost use Rattle.std.specs.Prelude.{◌≡◌, length, IfOk, vec_len};
+ghost use Rattle.std.specs.Prelude.{◌≡◌, length};
 
 use plan::Planned;
-use std::alloc::{AllocError, Global};
 use std::fs::File;
 use std::io::{Read, Write};
 use std::rt::{Env, Files};
@@ -47,17 +46,17 @@ const MOST_WORDS: usize = 16384;
 const MOST_SITES: usize = 1024;
 
 // Room for the book.
-fn book_room(alloc: Global) -> Result<Vec<u8>, AllocError>
-    ensures { IfOk result (λ room. 66048 ≡ vec_len room) }
+fn book_room() -> [u8; MOST_BYTES]
+    ensures { 66048 ≡ length result }
 {
-    Ok(vec![in alloc; 0u8; MOST_BYTES]?)
+    [0u8; MOST_BYTES]
 }
 
 // Room for the words, those that the file has or those that are planned.
-fn words_room(alloc: Global) -> Result<Vec<u32>, AllocError>
-    ensures { IfOk result (λ room. 16384 ≡ vec_len room) }
+fn words_room() -> [u32; MOST_WORDS]
+    ensures { 16384 ≡ length result }
 {
-    Ok(vec![in alloc; 0u32; MOST_WORDS]?)
+    [0u32; MOST_WORDS]
 }
 
 // Room for a reading's pattern kinds, and below for its numbers and its identities.
@@ -190,7 +189,6 @@ fn plan_case(
 
 // Reads a reading with its answer, walks the words, and prints what differs.
 fn one_reading(
-    alloc: Global,
     out: &mut impl Write,
     file: &mut impl Read,
     case: usize,
@@ -202,8 +200,8 @@ fn one_reading(
     let mut numbers = numbers_room();
     let mut identities = identities_room();
     let n = file::bytes(file, &mut kinds);
-    let m = file::numbers(alloc, file, &mut numbers)?;
-    let k = file::words(alloc, file, &mut identities)?;
+    let m = file::numbers(file, &mut numbers);
+    let k = file::words(file, &mut identities);
     if n > MOST_SITES {
         return Ok(broken(tally));
     }
@@ -214,7 +212,7 @@ fn one_reading(
         return Ok(broken(tally));
     }
     let mut last = [0u32; 3];
-    if !file::take_words(alloc, file, &mut last)? {
+    if !file::take_words(file, &mut last) {
         return Ok(broken(tally));
     }
     let wanted = Told {
@@ -232,7 +230,6 @@ fn one_reading(
 
 // The readings of a case, one behind the other.
 fn readings(
-    alloc: Global,
     out: &mut impl Write,
     file: &mut impl Read,
     case: usize,
@@ -242,7 +239,7 @@ fn readings(
     let count = file::next_length(file);
     let mut tally = tally;
     for k in 0..count {
-        tally = one_reading(alloc, out, file, case, k, words, tally)?;
+        tally = one_reading(out, file, case, k, words, tally)?;
         if !tally.whole {
             return Ok(tally);
         }
@@ -257,15 +254,14 @@ fn book_bytes(length: usize) -> usize {
 
 // Reads a case, plans its book if it has one, and walks its readings over the room that the file has.
 fn one_case(
-    alloc: Global,
     out: &mut impl Write,
     file: &mut impl Read,
     case: usize,
     tally: Tally,
 ) -> io::Result<Tally> {
-    let mut book = book_room(alloc)?;
-    let mut wanted = words_room(alloc)?;
-    let mut room = words_room(alloc)?;
+    let mut book = book_room();
+    let mut wanted = words_room();
+    let mut room = words_room();
     let length = file::next_length(file);
     let n = book_bytes(length);
     if n > MOST_BYTES {
@@ -275,12 +271,12 @@ fn one_case(
         return Ok(broken(tally));
     }
     let answer = file::next_length(file);
-    let m = file::words(alloc, file, &mut wanted)?;
+    let m = file::words(file, &mut wanted);
     if m > MOST_WORDS {
         return Ok(broken(tally));
     }
     if length == NO_BOOK {
-        return readings(alloc, out, file, case, &wanted[..m], tally);
+        return readings(out, file, case, &wanted[..m], tally);
     }
     let tally = plan_case(
         out,
@@ -291,12 +287,11 @@ fn one_case(
         &mut room[..m],
         tally,
     )?;
-    readings(alloc, out, file, case, &wanted[..m], tally)
+    readings(out, file, case, &wanted[..m], tally)
 }
 
 // The cases of a file, one behind the other.
 fn cases(
-    alloc: Global,
     out: &mut impl Write,
     file: &mut impl Read,
     count: usize,
@@ -304,7 +299,7 @@ fn cases(
 ) -> io::Result<Tally> {
     let mut tally = tally;
     for k in 0..count {
-        tally = one_case(alloc, out, file, k, tally)?;
+        tally = one_case(out, file, k, tally)?;
         if !tally.whole {
             return Ok(tally);
         }
@@ -314,14 +309,9 @@ fn cases(
 }
 
 // An open file: its mark, its version, its number of cases, and the cases, with nothing behind them.
-fn one_file(
-    alloc: Global,
-    out: &mut impl Write,
-    file: &mut impl Read,
-    tally: Tally,
-) -> io::Result<Tally> {
+fn one_file(out: &mut impl Write, file: &mut impl Read, tally: Tally) -> io::Result<Tally> {
     let mut head = [0u32; 3];
-    if !file::take_words(alloc, file, &mut head)? {
+    if !file::take_words(file, &mut head) {
         return Ok(broken(tally));
     }
     if head[0] != MARK {
@@ -330,7 +320,7 @@ fn one_file(
     if head[1] != VERSION {
         return Ok(broken(tally));
     }
-    let tally = cases(alloc, out, file, tables::wide(head[2]), tally)?;
+    let tally = cases(out, file, tables::wide(head[2]), tally)?;
     if console::is_more(file)? {
         return Ok(broken(tally));
     }
@@ -348,7 +338,7 @@ fn argument(
         tell::of_file(out, name.as_bytes(), b": cannot be read, whole cases ", 0)?;
         return Ok(broken(before));
     };
-    let tally = one_file(rt.alloc(), out, &mut file, before)?;
+    let tally = one_file(out, &mut file, before)?;
     drop(file);
     if tally.differ != before.differ {
         let differ = tally.differ.wrapping_sub(before.differ);
