@@ -1,7 +1,7 @@
 #!/usr/bin/env python3
 """Tests of the listing: what it looks like, that nothing is hidden in it, and what `lister` prints.
 
-python3 oracle/listing_tests.py [SEED]. The program is asked where it stands: target/bin/lister.
+python3 oracle/listing_tests.py [SEED]. The program is asked where it stands: crates/lister/out/lister.
 """
 
 import subprocess
@@ -20,9 +20,10 @@ from judge.book import (
 from judge.listing import degrees, listing, tree_of_listing
 from judge.plan import EMPTY, Arm, Equal, Match, Return, Step, tree
 from judge.words import DEEPEST, HIGHEST_ID, block_words, tree_of
+from programs import built
 
 ROOT = Path(__file__).parent.parent
-LISTER = ROOT / "target" / "bin" / "lister"
+LISTER = built("lister")
 SEED = 1
 
 # Written out by hand from document 01 and the definition of the text.
@@ -155,7 +156,7 @@ class NothingIsHidden(unittest.TestCase):
             self.assertEqual(block_words(tree_of_listing(listing(steps))), block_words(steps))
 
 
-@unittest.skipUnless(LISTER.is_file(), "target/bin/lister does not stand")
+@unittest.skipUnless(LISTER.is_file(), "crates/lister/out/lister does not stand")
 class TheProgram(unittest.TestCase):
     def printed(self, data):
         return subprocess.run([LISTER], input=data, stdout=subprocess.PIPE, check=True).stdout.decode()

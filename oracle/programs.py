@@ -1,7 +1,7 @@
 """The Rattle planner's programs, where they stand: `planner` and `replay`.
 
-PLANNER and REPLAY name their commands; else target/bin/planner and target/bin/replay are asked, if
-they are there. `planner` reads a book on standard input and prints `words N` and the words on the
+PLANNER and REPLAY name their commands; else crates/planner/out/planner and crates/replay/out/replay
+are asked, if they are there (`rt ci` and `rt run` leave them there). `planner` reads a book on standard input and prints `words N` and the words on the
 next line, `refused N` or `too long`; `replay` takes a case file and ends with
 `cases N readings M differ K`.
 """
@@ -14,8 +14,13 @@ from pathlib import Path
 
 from casefile import file_bytes
 
-BUILT = Path(__file__).parent.parent / "target" / "bin"
+CRATES = Path(__file__).resolve().parent.parent / "crates"
 LONGEST_INPUT, ROOM_WORDS = 65_536, 16_384
+
+
+def built(name):
+    """Where a program stands once it is proved and built."""
+    return CRATES / name / "out" / name
 
 
 def command(variable, name):
@@ -23,8 +28,7 @@ def command(variable, name):
     named = os.environ.get(variable)
     if named is not None:
         return shlex.split(named) or None
-    built = BUILT / name
-    return [str(built)] if built.is_file() else None
+    return [str(built(name))] if built(name).is_file() else None
 
 
 def wanted_of_planner(data, answer, words):
