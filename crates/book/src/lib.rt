@@ -86,7 +86,7 @@ fn fill(
     front_refusal(book, sites, site_count, rules, rule_count)
 }
 
-#[derive(Drop)]
+#[derive(Clone, Copy)]
 pub enum Contents {
     // How many sites and rules the tables hold.
     Tables(usize, usize),

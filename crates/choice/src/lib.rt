@@ -15,7 +15,7 @@ ghost use Rattle.choice.specs.Worth.{worth_of, worth_from, Marks, marked_ends, N
 use order::wide;
 use tests::{CODE_ROOM, LAST_CODE, greater, of_test, one_more};
 
-#[derive(Drop)]
+#[derive(Clone, Copy)]
 pub enum Best {
     Match(u8),
     Equal(u8, u8),
@@ -142,7 +142,7 @@ fn of_pairs(
 
 // The rules of a part that may have a pair of a rule, at the front of `ids`. `bar` is one more than the highest
 // priority of the others, or 0.
-#[derive(Drop)]
+#[derive(Clone, Copy)]
 struct Near {
     ids: [u8; 252],
     count: usize,

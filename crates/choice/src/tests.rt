@@ -18,7 +18,7 @@ const STATE_ROOM: usize = 524288;
 
 // Which places of a part have a rule with a test, with mark 1, and one more than the highest priority of the other
 // rules, or 0.
-#[derive(Drop)]
+#[derive(Clone, Copy)]
 struct Told {
     had: [u8; 252],
     top: usize,

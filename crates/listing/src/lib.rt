@@ -19,14 +19,14 @@ const LAST: u32 = 251;
 const DEPTH: usize = 9;
 
 // The answer of `list`: how many bytes the text has, or the refusal's number.
-#[derive(Drop)]
+#[derive(Clone, Copy)]
 pub enum Listed {
     Bytes(usize),
     Refused(u8),
 }
 
 // What stands first in a list of words: how many words it takes, and the position behind its text.
-#[derive(Drop)]
+#[derive(Clone, Copy)]
 enum Seen {
     Tree(usize, usize),
     NoTree,

@@ -25,7 +25,7 @@ pub struct Scope {
 }
 
 // What a use of sites hands back: the scope after it, the next position in the room, and how many lets were written.
-#[derive(Drop)]
+#[derive(Clone, Copy)]
 pub struct Used {
     pub scope: Scope,
     pub at: usize,
@@ -33,7 +33,7 @@ pub struct Used {
 }
 
 // What stands at a position of a pattern.
-#[derive(Drop)]
+#[derive(Clone, Copy)]
 pub enum Place {
     Site(u8),
     Empty,

@@ -10,7 +10,7 @@ ghost use Rattle.sets.specs.Entries.{Moves, Joinable, Collects};
 ghost use Rattle.sets.specs.Determined.{empty_determined, find_determined, merge_determined, same_determined, told_determined, remove_determined};
 
 // A store of disjoint sets. It is made by `Store::empty` and by the calls below, and by nothing else.
-#[derive(Drop)]
+#[derive(Clone, Copy)]
 pub struct Store {
     // Entry z: 0 where z is unmerged, and else 1 more than z's representative.
     pub root: [u8; 252],
@@ -19,7 +19,7 @@ pub struct Store {
 }
 
 // The answer of `find`: the representative, nothing for an unmerged id, or the refusal's number.
-#[derive(Drop)]
+#[derive(Clone, Copy)]
 pub enum Found {
     Rep(usize),
     Nothing,
@@ -27,49 +27,49 @@ pub enum Found {
 }
 
 // What `find` hands back.
-#[derive(Drop)]
+#[derive(Clone, Copy)]
 pub struct Find {
     pub store: Store,
     pub found: Found,
 }
 
 // The answer of `merge`: it was done, or the refusal's number.
-#[derive(Drop)]
+#[derive(Clone, Copy)]
 pub enum Merged {
     Done,
     Refused(u8),
 }
 
 // What `merge` hands back.
-#[derive(Drop)]
+#[derive(Clone, Copy)]
 pub struct Merge {
     pub store: Store,
     pub merged: Merged,
 }
 
 // The answer of `in_same_set`: whether both are in one set, or the refusal's number.
-#[derive(Drop)]
+#[derive(Clone, Copy)]
 pub enum Told {
     Is(bool),
     Refused(u8),
 }
 
 // What `in_same_set` hands back.
-#[derive(Drop)]
+#[derive(Clone, Copy)]
 pub struct Same {
     pub store: Store,
     pub told: Told,
 }
 
 // The answer of `remove_set_of`: how many members the set had, or the refusal's number.
-#[derive(Drop)]
+#[derive(Clone, Copy)]
 pub enum Removed {
     Members(usize),
     Refused(u8),
 }
 
 // What `remove_set_of` hands back. The members stand ascending at the front of `members`, and zeros after them.
-#[derive(Drop)]
+#[derive(Clone, Copy)]
 pub struct Removal {
     pub store: Store,
     pub members: [u8; 252],
@@ -77,7 +77,7 @@ pub struct Removal {
 }
 
 // The first `count` of `ids`.
-#[derive(Drop)]
+#[derive(Clone, Copy)]
 struct Listed {
     ids: [u8; 252],
     count: usize,

@@ -46,9 +46,9 @@ module _ (b : Book) (d : Reading) (g : Good b) where
 
       each_pair : (p : Pair) → Memᴰ p (rule b i).pairs → agree d p.a p.b ≡ true
       each_pair p k =
-          let same_Class = order (split (ltb p.a p.b)) in
+          let one_class = order (split (ltb p.a p.b)) in
           eq-eqb (get_or d.identities p.a 0) (get_or d.identities p.b 0)
-          (respected (λ z. get_or d.identities z 0) σ.joined (λ q n. eqb-true (get_or d.identities q.a 0) (get_or d.identities q.b 0) (a.pairs_hold q n)) p.a p.b same_Class)
+          (respected (λ z. get_or d.identities z 0) σ.joined (λ q n. eqb-true (get_or d.identities q.a 0) (get_or d.identities q.b 0) (a.pairs_hold q n)) p.a p.b one_class)
         where
           l : Memᴰ p.a (named (rule b i)) × Memᴰ p.b (named (rule b i))
           l = named_pair (rule b i) p k

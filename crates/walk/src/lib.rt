@@ -21,7 +21,7 @@ const EMPTY: u32 = 65535;
 const DEPTH: usize = 9;
 
 // The answer of `walk`: rule and result, nothing, or the refusal's number.
-#[derive(Drop)]
+#[derive(Clone, Copy)]
 pub enum Walked {
     Found(u16, u16),
     Nothing,
@@ -29,7 +29,7 @@ pub enum Walked {
 }
 
 // Where a walk stops: at a Return, with its rule and result.
-#[derive(Drop)]
+#[derive(Clone, Copy)]
 enum Stop {
     At(u16, u16),
     Nowhere,
@@ -37,7 +37,7 @@ enum Stop {
 
 // What stands first in a list of words: how many words it takes, one more than the greatest site that it names, and
 // where its walk stops.
-#[derive(Drop)]
+#[derive(Clone, Copy)]
 enum Seen {
     Tree(usize, u32, Stop),
     NoTree,

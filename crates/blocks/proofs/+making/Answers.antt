@@ -1,4 +1,4 @@
--- The cycle of blocks and steps meets its contracts: `sort`, `make_steps`, `make_control_flow`, `make_match`, `make_equal` and `make_arm`. The nesting that is left falls.
+-- The cycle `making` of `blocks` meets its contracts: what its members have to show on their way.
 use mathlib.Core.Path.{sym, ◌∙◌, refl}
 use native.Mathlib.Omega.{arith}
 use lib.Seq.{length-take-le}

@@ -1,4 +1,4 @@
--- The cycle of blocks and steps meets its contracts: `sort`, `make_steps`, `make_control_flow`, `make_match`, `make_equal` and `make_arm`. The nesting that is left falls.
+-- What falls at each call of the cycle `making` of `blocks`, and what its loops keep.
 use Prim.Native.Nat.{◌-◌, ◌+◌, ◌*◌}
 use lib.ListN.{length}
 use Rattle.blocks.proofs.ArmsLoop.{ArmsGoing}

@@ -1,4 +1,4 @@
--- The loop's invariant: the greatest of `most` and the worth of the rules from k on is the greatest.
+-- The loop keeps its invariant, and the contract follows from it at each return.
 use mathlib.Core.Path.{ap, ◌∙◌}
 use Prim.Native.Nat.{max}
 use Rattle.laws.specs.Greatest.{climb_starts, climb_turn, climb_ends}

@@ -1,4 +1,4 @@
--- The loop's invariant: m of the first k ends are marked.
+-- The loop keeps its invariant, and the contract follows from it at each return.
 use mathlib.Core.Path.{refl}
 use native.Mathlib.Omega.{arith}
 use Rattle.choice.proofs.Nearby.{told_starts, told_turn, told_ends}

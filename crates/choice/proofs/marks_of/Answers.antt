@@ -1,4 +1,4 @@
--- The loop's invariant: the first k ends are marked.
+-- The loop keeps its invariant, and the contract follows from it at each return.
 use mathlib.Core.Path.{refl}
 use native.Mathlib.Omega.{arith}
 use Rattle.choice.proofs.Nearby.{mark_turn}

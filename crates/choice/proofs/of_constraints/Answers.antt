@@ -1,4 +1,4 @@
--- The loop's invariant: the greatest of `most` and the worth of the constraints from slot k on is the greatest.
+-- The loop keeps its invariant, and the contract follows from it at each return.
 use mathlib.Core.Path.{ap, ◌∙◌}
 use Prim.Native.Nat.{max}
 use native.Mathlib.Omega.{arith}

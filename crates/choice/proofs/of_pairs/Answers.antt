@@ -1,4 +1,4 @@
--- The loop's invariant: the greatest of `most` and the worth of the ends from k on is the greatest, and that of an end before k is at most `most`.
+-- The loop keeps its invariant, and the contract follows from it at each return.
 use mathlib.Core.Path.{sym, ap, ◌∙◌}
 use Prim.Native.Nat.{◌*◌}
 use native.Mathlib.Omega.{arith}

@@ -1,4 +1,4 @@
--- The loop's invariant: the near ones of the first k rules stand in front, and the others of them have raised the bar.
+-- The loop keeps its invariant, and the contract follows from it at each return.
 use mathlib.Core.Path.{refl, sym, ap, ◌∙◌}
 use native.Mathlib.Omega.{arith}
 use Rattle.tables.specs.Held.{rank_of}

@@ -1,4 +1,4 @@
--- The loop's invariant: whether x is one of the ends from j to k is whether it is one of the first k.
+-- The loop keeps its invariant, and the contract follows from it at each return.
 use mathlib.Core.Path.{◌≡◌, sym, ap, ◌∙◌}
 use mathlib.Core.List.{map}
 use Prim.Native.Nat.{◌-◌}

@@ -1,4 +1,4 @@
--- The blocks passed are framed.
+-- The loop keeps its invariant, and the contract follows from it at each return.
 use Rattle.std.proofs.Common.{◌≡◌, ℕ, sym, ap, ◌∙◌, arith, rules}
 use Rattle.definition.specs.Book.{slots}
 use Rattle.definition.specs.Bytes.{frame_ok}

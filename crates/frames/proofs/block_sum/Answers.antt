@@ -1,4 +1,4 @@
--- The words passed are added.
+-- The loop keeps its invariant, and the contract follows from it at each return.
 use Rattle.std.proofs.Common.{◌≡◌, ℕ, ◌+◌, ◌%◌, ◌^◌, sym, refl, ap, ◌∙◌, ap₂, add-one, arith, rules}
 use Rattle.definition.specs.Bytes.{edition_1, sum_of}
 use borrow.Author.Rules.{rules}

@@ -1,4 +1,4 @@
--- The sums of the blocks passed are right.
+-- The loop keeps its invariant, and the contract follows from it at each return.
 use Rattle.std.proofs.Common.{◌≡◌, ℕ, ◌/◌, ◌<◌, length, sym, ap, ◌∙◌, arith, eq-eqb, ne_eqb}
 use Rattle.definition.specs.Bytes.{block_count, edition_1, sum_ok, sums_ok}
 use Rattle.definition.specs.Lists.{upto, all}

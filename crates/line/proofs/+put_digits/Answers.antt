@@ -1,4 +1,4 @@
--- `put_digits` meets its contract: the digits in front are those of a tenth of the number.
+-- Each call falls, and the contract follows at each return.
 use native.Mathlib.Omega.{arith}
 use Rattle.line.proofs.Writing.{spelled_one, spelled_more}
 use Rattle.line.proofs.+put_digits.Goals as goal

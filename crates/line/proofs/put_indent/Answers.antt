@@ -1,4 +1,4 @@
--- `put_indent` meets its contract: two spaces for each number before k.
+-- The loop keeps its invariant, and the contract follows from it at each return.
 use native.Mathlib.Omega.{arith}
 use Rattle.line.proofs.Writing.{each_starts, each_turn, indents}
 use borrow.Author.Rules.{rules}

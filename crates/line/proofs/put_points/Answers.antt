@@ -1,4 +1,4 @@
--- `put_points` meets its contract: each number before k, with a point.
+-- The loop keeps its invariant, and the contract follows from it at each return.
 use native.Mathlib.Omega.{arith}
 use Rattle.line.proofs.Writing.{each_starts, each_turn, each_ends, writes_then}
 use borrow.Author.Rules.{rules}

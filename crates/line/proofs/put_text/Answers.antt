@@ -1,4 +1,4 @@
--- `put_text` meets its contract: the bytes before k are written.
+-- The loop keeps its invariant, and the contract follows from it at each return.
 use native.Mathlib.Omega.{arith}
 use Rattle.line.proofs.Writing.{each_starts, each_turn, bytes_end}
 use borrow.Author.Rules.{rules}

@@ -1,4 +1,4 @@
--- The functions that read and write a tree call each other, with fewer blocks left at each block. What each reads and writes follows from its parts (Parts, Turns).
+-- The cycle `reading` of `listing` meets its contracts: what its members have to show on their way.
 use Prim.Native.Nat.{◌-◌}
 use native.Mathlib.Omega.{arith}
 use lib.ListN.{length-drop}

@@ -1,4 +1,4 @@
--- The functions that read and write a tree call each other, with fewer blocks left at each block. What each reads and writes follows from its parts (Parts, Turns).
+-- What falls at each call of the cycle `reading` of `listing`, and what its loops keep.
 use mathlib.Core.Path.{◌≡◌}
 use mathlib.Core.List.{List, [], ◌∷◌, ◌++◌}
 use Prim.Native.Nat.{ℕ, ◌-◌, ◌+◌, ◌*◌}

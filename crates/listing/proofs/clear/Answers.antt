@@ -1,4 +1,4 @@
--- `clear` meets its contract: every byte becomes zero.
+-- The loop keeps its invariant, and the contract follows from it at each return.
 use Rattle.line.proofs.Writing.{each_starts, each_turn, writes_set}
 use Rattle.listing.proofs.Whole.{zeroed}
 use native.Mathlib.Omega.{arith}

@@ -1,4 +1,4 @@
--- `lets` meets its contract: the ids before i are read, and their lines are written.
+-- The loop keeps its invariant, and the contract follows from it at each return.
 use native.Mathlib.Omega.{arith}
 use Rattle.line.specs.Writes.{numbers_of}
 use Rattle.listing.proofs.Reading.{taken_starts, lets_turn, lets_good}

@@ -1,4 +1,4 @@
--- `places` meets its contract: the places before i are read and written.
+-- The loop keeps its invariant, and the contract follows from it at each return.
 use native.Mathlib.Omega.{arith}
 use mathlib.Core.Path.{sym, ◌∙◌}
 use Rattle.listing.proofs.Reading.{taken_starts, taken_turn, places_good}

@@ -1,4 +1,4 @@
--- `all_rules` meets its contract: the order is counted up.
+-- The loop keeps its invariant, and the contract follows from it at each return.
 use mathlib.Core.Path.{refl}
 use native.Mathlib.Omega.{arith}
 use Rattle.laws.specs.Loops.{fill_starts, fill_turn}

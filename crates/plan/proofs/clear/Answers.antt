@@ -1,4 +1,4 @@
--- `clear` meets its contract: every word becomes zero.
+-- The loop keeps its invariant, and the contract follows from it at each return.
 use mathlib.Core.Path.{refl}
 use native.Mathlib.Omega.{arith}
 use Rattle.laws.specs.Loops.{fill_starts, fill_turn, all_zero}

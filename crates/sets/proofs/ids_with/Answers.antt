@@ -1,4 +1,4 @@
--- `sets::ids_with` meets its contract: before turn i the ids below i whose entry is a stand at the front.
+-- The loop keeps its invariant, and the contract follows from it at each return.
 use mathlib.Core.Path.{◌≡◌}
 use native.Mathlib.Omega.{arith}
 use Rattle.laws.specs.Loops.{collect_starts, collect_one}

@@ -1,4 +1,4 @@
--- `sets::relabelled` meets its contract: the first i entries are renamed, the others are as they were.
+-- The loop keeps its invariant, and the contract follows from it at each return.
 use Prim.Native.Nat.{◌≤◌, ◌<◌}
 use lib.ListN.{length}
 use Rattle.laws.specs.Loops.{map_starts, map_turn, map_ends}

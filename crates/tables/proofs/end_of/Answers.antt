@@ -1,4 +1,4 @@
--- The loop's invariant: none of the first k ends is x.
+-- The loop keeps its invariant, and the contract follows from it at each return.
 use Rattle.std.proofs.Common.{sym, ◌∙◌, arith, rules}
 use Rattle.tables.proofs.Ends.{pass_starts, pass_turn, no_end}
 use borrow.Author.Rules.{rules}

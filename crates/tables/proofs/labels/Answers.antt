@@ -1,4 +1,4 @@
--- The loop's invariant: the pairs from slot k on are joined.
+-- The loop keeps its invariant, and the contract follows from it at each return.
 use Rattle.std.proofs.Common.{◌-◌, arith, rules}
 use Rattle.tables.proofs.Slots.{label_turn, labels_now}
 use borrow.Author.Rules.{rules}

@@ -1,4 +1,4 @@
--- The loop's invariant: the first k labels are the ends themselves.
+-- The loop keeps its invariant, and the contract follows from it at each return.
 use Rattle.std.proofs.Common.{refl, ◌∙◌, arith}
 use Rattle.laws.specs.Loops.{fill_starts, fill_turn}
 use Rattle.tables.proofs.Slots.{own_label_each}

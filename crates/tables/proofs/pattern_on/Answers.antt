@@ -1,4 +1,4 @@
--- The loop's invariant: the first pattern on s among the constraints from slot k on is the rule's.
+-- The loop keeps its invariant, and the contract follows from it at each return.
 use Rattle.std.proofs.Common.{◌∙◌, arith, eq-eqb, ne_eqb}
 use Rattle.tables.proofs.Slots.{on_slot, pattern_all, pattern_skip, pattern_hit, pattern_end, slot_shown}
 use Rattle.tables.proofs.pattern_on.Goals as goal

@@ -1,4 +1,4 @@
--- The loop's invariant: the first k entries are renamed, the others are as they were.
+-- The loop keeps its invariant, and the contract follows from it at each return.
 use Rattle.std.proofs.Common.{◌<◌, ◌≤◌, length, rules}
 use Rattle.laws.specs.Loops.{map_starts, map_turn, map_ends}
 use Rattle.tables.specs.Held.{}

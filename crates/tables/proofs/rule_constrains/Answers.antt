@@ -1,4 +1,4 @@
--- The loop's invariant: whether one of the constraints from slot k on is on s is whether any is.
+-- The loop keeps its invariant, and the contract follows from it at each return.
 use Rattle.std.proofs.Common.{sym, ◌∙◌, arith, eq-eqb, ne_eqb}
 use Rattle.laws.specs.Runs.{in_slots, any_skip, any_hit, any_end}
 use Rattle.tables.proofs.Slots.{on_slot, constrains_all}

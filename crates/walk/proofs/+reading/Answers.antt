@@ -1,4 +1,4 @@
--- The cycle of `walk` meets its contracts: what its members have to show on their way, put together.
+-- The cycle `reading` of `walk` meets its contracts: what its members have to show on their way.
 use Rattle.walk.proofs.Laws.{tail, held_tail, told_none, told_good}
 use native.Mathlib.Omega.{arith}
 use Rattle.definition.specs.Read.{read_block, read_arm, read_counted, read_tagged, read_step}

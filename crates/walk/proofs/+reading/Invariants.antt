@@ -1,4 +1,4 @@
--- The cycle of `walk` meets its contracts: what its members have to show on their way, put together.
+-- What falls at each call of the cycle `reading` of `walk`, and what its loops keep.
 use Rattle.definition.specs.Read.{read_block}
 use Rattle.walk.specs.Ends.{reading}
 use Rattle.walk.proofs.Turns.{ArmsAt, Steps}

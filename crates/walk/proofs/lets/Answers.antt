@@ -1,4 +1,4 @@
--- The loop's invariant: the lets before i are ids, and `top` is one more than the greatest.
+-- The loop keeps its invariant, and the contract follows from it at each return.
 use Rattle.walk.proofs.Laws.{lets_begin, lets_more, lets_good}
 use native.Mathlib.Omega.{arith}
 use Rattle.walk.proofs.Readers.{lets_empty, lets_short, lets_bad}

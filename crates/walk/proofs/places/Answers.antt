@@ -1,4 +1,4 @@
--- The loop's invariant: the places before i are ids or empty, and `top` is one more than the greatest id.
+-- The loop keeps its invariant, and the contract follows from it at each return.
 use Rattle.walk.proofs.Laws.{places_begin, places_empty, places_more, place_bad, places_good}
 use Rattle.walk.proofs.Finds.{places_bad}
 use native.Mathlib.Omega.{arith}

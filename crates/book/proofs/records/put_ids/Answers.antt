@@ -1,4 +1,4 @@
--- The ids passed stand where they belong.
+-- The loop keeps its invariant, and the contract follows from it at each return.
 use Prim.Native.Nat.{ℕ, ◌+◌, ◌*◌}
 use mathlib.Core.Path.{◌≡◌, refl, ap, ap₂, ◌∙◌}
 use mathlib.Core.List.{List, map}

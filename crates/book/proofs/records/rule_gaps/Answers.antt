@@ -1,4 +1,4 @@
--- The records passed have no stray byte.
+-- The loop keeps its invariant, and the contract follows from it at each return.
 use Prim.Native.Nat.{ℕ}
 use mathlib.Core.Path.{◌≡◌, refl, sym, ap, ◌∙◌}
 use native.Mathlib.Omega.{arith}

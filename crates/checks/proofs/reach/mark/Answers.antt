@@ -1,4 +1,4 @@
--- The sites passed are marked.
+-- The loop keeps its invariant, and the contract follows from it at each return.
 use Prim.Native.Nat.{ℕ, ◌+◌}
 use mathlib.Core.Path.{◌≡◌, sym, subst}
 use mathlib.Core.List.{map}

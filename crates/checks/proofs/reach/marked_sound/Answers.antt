@@ -1,4 +1,4 @@
--- What is marked below the site decides as all marks did.
+-- The loop keeps its invariant, and the contract follows from it at each return.
 use Prim.Native.Nat.{◌-◌}
 use mathlib.Core.Path.{◌≡◌, refl, sym, ap, ◌∙◌}
 use native.Mathlib.Omega.{arith}

@@ -1,4 +1,4 @@
--- What is left decides as the whole does: the first constraint of it is on no later one's site, and so on.
+-- The loop keeps its invariant, and the contract follows from it at each return.
 use Prim.Native.Nat.{ℕ, ◌+◌, ◌-◌}
 use mathlib.Core.Path.{◌≡◌, refl, sym, ap, ◌∙◌}
 use mathlib.Core.Bool.{not}

@@ -1,4 +1,4 @@
--- The rules passed are fine.
+-- The loop keeps its invariant, and the contract follows from it at each return.
 use Prim.Native.Nat.{ℕ}
 use mathlib.Core.Path.{◌≡◌, sym, ap, ◌∙◌}
 use native.Mathlib.Omega.{arith}

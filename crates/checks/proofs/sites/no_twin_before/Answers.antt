@@ -1,4 +1,4 @@
--- None of the sites passed is a twin.
+-- The loop keeps its invariant, and the contract follows from it at each return.
 use Prim.Native.Nat.{ℕ}
 use mathlib.Core.Path.{◌≡◌, sym, ap, ◌∙◌}
 use mathlib.Core.Bool.{not}

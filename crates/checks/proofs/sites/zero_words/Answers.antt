@@ -1,4 +1,4 @@
--- The words passed are zero.
+-- The loop keeps its invariant, and the contract follows from it at each return.
 use mathlib.Core.Path.{◌≡◌, sym, ap, ◌∙◌}
 use native.Mathlib.Omega.{arith}
 use borrow.Author.Tests.{eq-eqb, ne_eqb}

@@ -1,4 +1,4 @@
--- The loop's invariant: the first k places are marked, and the rules of theirs that lack the test have raised `top`.
+-- The loop keeps its invariant, and the contract follows from it at each return.
 use mathlib.Core.Path.{refl, sym, ap, ◌∙◌}
 use native.Mathlib.Omega.{arith}
 use Rattle.laws.specs.Loops.{fill_starts, fill_turn}

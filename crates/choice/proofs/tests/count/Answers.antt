@@ -1,4 +1,4 @@
--- The loop's invariant: n and those from k on that pass are all that pass.
+-- The loop keeps its invariant, and the contract follows from it at each return.
 use mathlib.Core.Path.{◌∙◌}
 use native.Mathlib.Omega.{arith}
 use Rattle.laws.specs.Runs.{tally_starts, tally_turn, tally_ends}

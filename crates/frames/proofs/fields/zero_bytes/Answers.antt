@@ -1,4 +1,4 @@
--- The bytes passed are zero.
+-- The loop keeps its invariant, and the contract follows from it at each return.
 use Rattle.std.proofs.Common.{◌≡◌, sym, ap, ◌∙◌, arith, rules, eq-eqb, ne_eqb}
 use Rattle.definition.specs.Tables.{is_zero, zero_from}
 use Rattle.laws.specs.Turns.{from_one, from_stop}

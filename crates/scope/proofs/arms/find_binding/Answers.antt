@@ -1,4 +1,4 @@
--- The loop's invariant: the first site that stands at the position is the first one from x on.
+-- The loop keeps its invariant, and the contract follows from it at each return.
 use mathlib.Core.Path.{sym, ◌∙◌}
 use native.Mathlib.Omega.{arith}
 use Rattle.scope.proofs.Binds.{bound_kind, stands_here, stands_elsewhere, not_bound, seeking_starts, seeking_skip, seeking_hit, seeking_ends}

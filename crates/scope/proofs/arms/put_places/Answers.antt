@@ -1,4 +1,4 @@
--- The loop's invariant: the words of the places below k are written.
+-- The loop keeps its invariant, and the contract follows from it at each return.
 use mathlib.Core.Path.{refl, ◌∙◌, ap}
 use native.Mathlib.Omega.{arith}
 use Rattle.definition.specs.Tree.{place_word}

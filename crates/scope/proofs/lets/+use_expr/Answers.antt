@@ -1,4 +1,4 @@
--- `scope::lets::use_expr` meets its contract. The measure is the site's id; the loop's invariant: the sources below k are used, and no more was listed than was marked.
+-- Each call falls, and the contract follows at each return.
 use mathlib.Core.Path.{◌≡◌, refl, sym, ◌∙◌}
 use Prim.Native.Nat.{◌-◌, ◌<◌}
 use native.Mathlib.Omega.{arith}

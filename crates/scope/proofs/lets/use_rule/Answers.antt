@@ -1,4 +1,4 @@
--- The loop's invariant: the impure sites below k are used, and no more was listed than was marked; the result is used after them.
+-- The loop keeps its invariant, and the contract follows from it at each return.
 use mathlib.Core.Path.{◌≡◌, refl, ◌∙◌}
 use Prim.Native.Nat.{suc}
 use native.Mathlib.Omega.{arith}

@@ -1,4 +1,4 @@
--- The loop's invariant: the sites below x are passed as the definition's pass does it.
+-- The loop keeps its invariant, and the contract follows from it at each return.
 use mathlib.Core.Path.{sym, ◌∙◌}
 use native.Mathlib.Omega.{arith}
 use Rattle.definition.specs.Scope.{worked_out}

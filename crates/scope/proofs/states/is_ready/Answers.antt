@@ -1,4 +1,4 @@
--- The loop's invariant: whether all sources from k on are there is whether all are.
+-- The loop keeps its invariant, and the contract follows from it at each return.
 use mathlib.Core.Path.{refl, sym, ◌∙◌}
 use native.Mathlib.Omega.{arith}
 use Rattle.definition.specs.Scope.{is_there}
