@@ -138,7 +138,8 @@ fn state_of(states: &[u8; 252], a: usize, b: usize) -> usize
     }
     let first = states[a];
     let second = states[b];
-    if first < second {
+    let first_lower = first < second;
+    if first_lower {
         return wide(first);
     }
     wide(second)

@@ -8,10 +8,11 @@ mod tell;
 ghost use Rattle.std.specs.Prelude.{◌≡◌, length};
 
 use plan::Planned;
+use std::env::FillError;
 use std::fs::File;
+use std::io;
 use std::io::{Read, Write};
 use std::rt::{Env, Files};
-use std::{env, io};
 use tell::Told;
 use walk::Walked;
 
@@ -329,43 +330,48 @@ fn one_file(out: &mut impl Write, file: &mut impl Read, tally: Tally) -> io::Res
 
 // The file that an argument names. Where it differs or cannot be replayed, a line names it.
 fn argument(
-    rt: &(impl Files + AllocGlobal),
+    rt: &impl Files,
     out: &mut impl Write,
-    name: &str,
+    name: &[u8],
     before: Tally,
 ) -> io::Result<Tally> {
-    let Ok(mut file) = File::open(rt, name) else {
-        tell::of_file(out, name.as_bytes(), b": cannot be read, whole cases ", 0)?;
+    let Ok(path) = std::str::from_utf8(name) else {
+        tell::of_file(out, name, b": cannot be read, whole cases ", 0)?;
+        return Ok(broken(before));
+    };
+    let Ok(mut file) = File::open(rt, path) else {
+        tell::of_file(out, name, b": cannot be read, whole cases ", 0)?;
         return Ok(broken(before));
     };
     let tally = one_file(out, &mut file, before)?;
     drop(file);
     if tally.differ != before.differ {
         let differ = tally.differ.wrapping_sub(before.differ);
-        tell::of_file(out, name.as_bytes(), b": differ ", differ)?;
+        tell::of_file(out, name, b": differ ", differ)?;
     }
     if !tally.whole {
         let cases = tally.cases.wrapping_sub(before.cases);
-        tell::of_file(
-            out,
-            name.as_bytes(),
-            b": damaged or too large, whole cases ",
-            cases,
-        )?;
+        tell::of_file(out, name, b": damaged or too large, whole cases ", cases)?;
     }
     Ok(tally)
 }
 
-// Every file that an argument names, up to one that cannot be replayed.
-fn arguments(rt: &(impl Env + Files + AllocGlobal), out: &mut impl Write) -> io::Result<Tally> {
+// Every file that an argument names, up to one that cannot be replayed. A name of more than 4,096 bytes counts as empty.
+fn arguments(rt: &(impl Env + Files), out: &mut impl Write) -> io::Result<Tally> {
     let mut tally = Tally {
         cases: 0,
         readings: 0,
         differ: 0,
         whole: true,
     };
-    for name in env::args(rt)?.skip(1) {
-        tally = argument(rt, out, name.as_str(), tally)?;
+    for i in 1..usize::MAX {
+        let mut name = [0u8; 4096];
+        let n = match rt.arg(i, &mut name) {
+            Ok(n) => n,
+            Err(FillError::TooLong) => 0,
+            Err(FillError::NotPresent) => return Ok(tally),
+        };
+        tally = argument(rt, out, &name[..n], tally)?;
         if !tally.whole {
             return Ok(tally);
         }

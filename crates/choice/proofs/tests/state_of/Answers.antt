@@ -9,10 +9,10 @@ pub returns-then-b-eq0 : goal.returns-then-b-eq0
 unfolding state_at
 returns-then-b-eq0 c = (c.wide.ensures.0 ∙ rw (eq-eqb _ _ c.if-b-eq0.true), c.wide.ensures.1)
 
-pub returns-then-first-second : goal.returns-then-first-second
+pub returns-then-first_lower : goal.returns-then-first_lower
 unfolding state_at
-returns-then-first-second c = (c.wide-then-first-second.ensures.0 ∙ rw (ne_eqb _ _ c.if-b-eq0.false) (omega (arith, c.if-first-second.true)), c.wide-then-first-second.ensures.1)
+returns-then-first_lower c = (c.wide-then-first_lower.ensures.0 ∙ rw (ne_eqb _ _ c.if-b-eq0.false) (omega (arith, c.if-first_lower.true)), c.wide-then-first_lower.ensures.1)
 
 pub returns : goal.returns
 unfolding state_at
-returns c = (c.wide-2.ensures.0 ∙ rw (ne_eqb _ _ c.if-b-eq0.false) (omega (arith, c.if-first-second.false)), c.wide-2.ensures.1)
+returns c = (c.wide-2.ensures.0 ∙ rw (ne_eqb _ _ c.if-b-eq0.false) (omega (arith, c.if-first_lower.false)), c.wide-2.ensures.1)
