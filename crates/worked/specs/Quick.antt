@@ -5,7 +5,8 @@ use Rattle.std.proofs.Common.{sym, ◌∙◌, ap, arith, get_or-drop, drop-drop}
 use Rattle.definition.specs.Lists.{◌is◌, ◌at_most◌, every, upto, all, flat}
 use Rattle.definition.specs.Book.{Book, most}
 use Rattle.definition.specs.Tables.{book_of, is_zero, zero_from}
-use Rattle.definition.specs.Bytes.{byte, le16, le32, records_bytes, block_start, block_count, edition, length_ok, sum_of, right_sum, sum_ok, sums_ok, sites_named, rules_named, blocks_wanted, Frame, frame, framed, frame_ok, frames_ok, site_fields, constraint_fields, id_field, rule_fields, site_offset, rule_offset, site_record, rule_record, site_table, rule_table, book_in, book_from, site_gaps, rule_gaps, sites_pass, rules_pass, site_records_ok, rule_records_ok, refusal_of, book_refusal}
+use Rattle.definition.specs.Bytes.{byte, le16, le32, records_bytes, block_start, block_count, edition, length_ok, sum_of, right_sum, sum_ok, sums_ok, sites_named, rules_named, blocks_wanted, Frame, frame, framed, frame_ok, frames_ok}
+use Rattle.definition.specs.Bytes.{site_fields, constraint_fields, id_field, rule_fields, site_offset, rule_offset, site_record, rule_record, site_table, rule_table, book_in, book_from, site_gaps, rule_gaps, sites_pass, rules_pass, site_records_ok, rule_records_ok, refusal_of, book_refusal}
 use Rattle.definition.specs.Accept.{lowest, book_tests}
 use Rattle.definition.specs.Plan.{tree}
 use Rattle.definition.specs.Tree.{words}

@@ -100,7 +100,17 @@ pub make_match-slice_bounds-part-count : goal.make_match-slice_bounds-part-count
 make_match-slice_bounds-part-count t c = c.loop-lo.invariant.inside
 
 pub make_match-make_arm-arm-requires : goal.make_match-make_arm-arm-requires
-make_match-make_arm-arm-requires t c = let p = c.requires in let l = c.loop-lo in (omega (arith, c.decreases), (planning_in p.0 p.0.scope (rw (tail_part l.order l.lo) l.invariant.rules_left) (l.invariant.size ∙ (wrote_then (wrote_one c.put_word-second.ensures) (wrote_then (wrote_one c.put_word-third.ensures) (wrote_one c.put_word-pos.ensures))).size) (omega (arith, l.invariant.fits, l.invariant.size)), (p.1.0, (p.1.1.1, omega (arith, tail_length l.order l.lo, c.loop-lo-test.true)))))
+make_match-make_arm-arm-requires t c =
+    let p = c.requires in
+    let l = c.loop-lo in
+    let wrote = wrote_then (wrote_one c.put_word-second.ensures) (wrote_then (wrote_one c.put_word-third.ensures) (wrote_one c.put_word-pos.ensures)) in
+    let size = l.invariant.size ∙ wrote.size in (
+      omega (arith, c.decreases),
+      (
+        planning_in p.0 p.0.scope (rw (tail_part l.order l.lo) l.invariant.rules_left) size (omega (arith, l.invariant.fits, l.invariant.size)),
+        (p.1.0, (p.1.1.1, omega (arith, tail_length l.order l.lo, c.loop-lo-test.true))),
+      ),
+    )
 
 pub make_match-overflow_add-lo : goal.make_match-overflow_add-lo
 make_match-overflow_add-lo t c = let l = c.loop-lo in record { fits = omega (arith, c.make_arm-arm.ensures.within, tail_length l.order l.lo, l.invariant.inside, l.invariant.long, few_rules c.requires.0) }
@@ -136,7 +146,16 @@ pub make_steps-overflow_add-end : goal.make_steps-overflow_add-end
 make_steps-overflow_add-end t c = let l = c.loop-taken in record { fits = omega (arith, c.next_test-next.ensures.within, tail_length l.order l.taken, l.invariant.inside, l.invariant.long, few_rules c.requires) }
 
 pub make_steps-make_control_flow-used-requires : goal.make_steps-make_control_flow-used-requires
-make_steps-make_control_flow-used-requires t c = let l = c.loop-taken in (omega (arith, c.decreases), (planning_in c.requires l.invariant.scope (front_part l.invariant _ c.next_test-next.ensures (positive _ c.if-spent.false) _ refl) l.invariant.size (omega (arith, l.invariant.fits, l.invariant.size)), (c.next_test-next.ensures.known (positive _ c.if-spent.false), c.next_test-next.ensures.nested (positive _ c.if-spent.false))))
+make_steps-make_control_flow-used-requires t c =
+    let i = c.loop-taken.invariant in
+    let next = c.next_test-next.ensures in
+    let some = positive _ c.if-spent.false in (
+      omega (arith, c.decreases),
+      (
+        planning_in c.requires i.scope (front_part i _ next some _ refl) i.size (omega (arith, i.fits, i.size)),
+        (next.known some, next.nested some),
+      ),
+    )
 
 pub make_steps-overflow_add-count : goal.make_steps-overflow_add-count
 make_steps-overflow_add-count t c = let l = c.loop-taken in record { fits = omega (arith, c.loop-taken-test.true, l.invariant.few, l.invariant.long, few_rules c.requires) }

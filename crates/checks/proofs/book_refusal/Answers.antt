@@ -16,7 +16,9 @@ fields_ok-requires c =
 pub returns-then-not-fields_ok : goal.returns-then-not-fields_ok
 returns-then-not-fields_ok c =
     let args = c.args in
-    let x : fields_ok (book_of slots args.site_count args.rule_count args.sites.now args.rules.now) ≡ false = (sym (c.fields_ok.ensures args.site_count args.sites.now)) ∙ c.if-not-fields_ok.true in rw x
+    let book = book_of slots args.site_count args.rule_count args.sites.now args.rules.now in
+    let fields : fields_ok book ≡ false = sym (c.fields_ok.ensures args.site_count args.sites.now) ∙ c.if-not-fields_ok.true in
+    rw fields
 
 pub apart_ok-requires : goal.apart_ok-requires
 apart_ok-requires c =
@@ -27,14 +29,25 @@ apart_ok-requires c =
 pub returns-then-not-apart_ok : goal.returns-then-not-apart_ok
 returns-then-not-apart_ok c =
     let args = c.args in
-    let x : fields_ok (book_of slots args.site_count args.rule_count args.sites.now args.rules.now) ≡ true = (sym (c.fields_ok.ensures args.site_count args.sites.now)) ∙ c.if-not-fields_ok.false in let y : apart_ok (book_of slots args.site_count args.rule_count args.sites.now args.rules.now) ≡ false = (sym (c.apart_ok.ensures args.site_count args.sites.now)) ∙ c.if-not-apart_ok.true in rw (x, y)
+    let book = book_of slots args.site_count args.rule_count args.sites.now args.rules.now in
+    let fields : fields_ok book ≡ true = sym (c.fields_ok.ensures args.site_count args.sites.now) ∙ c.if-not-fields_ok.false in
+    let apart : apart_ok book ≡ false = sym (c.apart_ok.ensures args.site_count args.sites.now) ∙ c.if-not-apart_ok.true in
+    rw (fields, apart)
 
 pub returns-then-not-sound_ok : goal.returns-then-not-sound_ok
 returns-then-not-sound_ok c =
     let args = c.args in
-    let x : fields_ok (book_of slots args.site_count args.rule_count args.sites.now args.rules.now) ≡ true = (sym (c.fields_ok.ensures args.site_count args.sites.now)) ∙ c.if-not-fields_ok.false in let y : apart_ok (book_of slots args.site_count args.rule_count args.sites.now args.rules.now) ≡ true = (sym (c.apart_ok.ensures args.site_count args.sites.now)) ∙ c.if-not-apart_ok.false in let z : sound_ok (book_of slots args.site_count args.rule_count args.sites.now args.rules.now) ≡ false = (sym c.sound_ok.ensures) ∙ c.if-not-sound_ok.true in rw (x, y, z)
+    let book = book_of slots args.site_count args.rule_count args.sites.now args.rules.now in
+    let fields : fields_ok book ≡ true = sym (c.fields_ok.ensures args.site_count args.sites.now) ∙ c.if-not-fields_ok.false in
+    let apart : apart_ok book ≡ true = sym (c.apart_ok.ensures args.site_count args.sites.now) ∙ c.if-not-apart_ok.false in
+    let sound : sound_ok book ≡ false = sym c.sound_ok.ensures ∙ c.if-not-sound_ok.true in
+    rw (fields, apart, sound)
 
 pub returns : goal.returns
 returns c =
     let args = c.args in
-    let x : fields_ok (book_of slots args.site_count args.rule_count args.sites.now args.rules.now) ≡ true = (sym (c.fields_ok.ensures args.site_count args.sites.now)) ∙ c.if-not-fields_ok.false in let y : apart_ok (book_of slots args.site_count args.rule_count args.sites.now args.rules.now) ≡ true = (sym (c.apart_ok.ensures args.site_count args.sites.now)) ∙ c.if-not-apart_ok.false in let z : sound_ok (book_of slots args.site_count args.rule_count args.sites.now args.rules.now) ≡ true = (sym c.sound_ok.ensures) ∙ c.if-not-sound_ok.false in rw (x, y, z)
+    let book = book_of slots args.site_count args.rule_count args.sites.now args.rules.now in
+    let fields : fields_ok book ≡ true = sym (c.fields_ok.ensures args.site_count args.sites.now) ∙ c.if-not-fields_ok.false in
+    let apart : apart_ok book ≡ true = sym (c.apart_ok.ensures args.site_count args.sites.now) ∙ c.if-not-apart_ok.false in
+    let sound : sound_ok book ≡ true = sym c.sound_ok.ensures ∙ c.if-not-sound_ok.false in
+    rw (fields, apart, sound)

@@ -6,4 +6,4 @@ use Rattle.choice.proofs.Whole.{found}
 use Rattle.choice.proofs.best_control_flow.Goals as goal
 
 pub returns : goal.returns
-returns c = found _ _ _ _ (λ j. omega (arith, c.shared_slice_known-1.given j)) _ (c.test_of.ensures ∙ ap decoded c.best_worth.ensures)
+returns c = found _ _ _ _ (λ j. omega (arith, c.type_inv.rules j)) _ (c.test_of.ensures ∙ ap decoded c.best_worth.ensures)

@@ -71,7 +71,7 @@ pub arms-slice_bounds-arm-end : goal.arms-slice_bounds-arm-end
 arms-slice_bounds-arm-end t c = omega (arith, (c.loop-k.invariant.0 (numbers_of c.args.path) c.deeper-inner.ensures.numbers).loop.inside)
 
 pub arms-overflow_add-k : goal.arms-overflow_add-k
-arms-overflow_add-k t c = omega (arith, c.loop-k-test.true, c.shared_slice_known-3-1.given 2)
+arms-overflow_add-k t c = omega (arith, c.loop-k-test.true, c.type_inv.w 2)
 
 pub arms-arm-seen-requires : goal.arms-arm-seen-requires
 arms-arm-seen-requires t c = (omega (arith, c.decreases), c.deeper-inner.ensures.room _ (room_less c.requires.1 (omega arith)))
@@ -83,7 +83,7 @@ pub arms-overflow_add-from : goal.arms-overflow_add-from
 arms-overflow_add-from t c = omega (arith, sum_within c.args.w.now _ _ (c.loop-k.invariant.0 (numbers_of c.args.path) c.deeper-inner.ensures.numbers).loop.inside (told_good (tail (read_arm (read_block c.args.left)) c.args.w.now _ c.arm-seen.ensures) c.in-Tree.is).within)
 
 pub arms-overflow_add-k-in-loop-k : goal.arms-overflow_add-k-in-loop-k
-arms-overflow_add-k-in-loop-k t c = omega (arith, c.loop-k-test.true, c.shared_slice_known-3-1.given 2)
+arms-overflow_add-k-in-loop-k t c = omega (arith, c.loop-k-test.true, c.type_inv.w 2)
 
 pub arms-loop-k-smaller : goal.arms-loop-k-smaller
 arms-loop-k-smaller t c = omega (arith, c.loop-k-test.true)
@@ -212,7 +212,7 @@ pub steps-slice_bounds-step-end : goal.steps-slice_bounds-step-end
 steps-slice_bounds-step-end t c = omega (arith, c.loop-i.invariant.0.loop.inside)
 
 pub steps-overflow_add-i : goal.steps-overflow_add-i
-steps-overflow_add-i t c = omega (arith, c.loop-i-test.true, c.shared_slice_known-2-1.given 0)
+steps-overflow_add-i t c = omega (arith, c.loop-i-test.true, c.type_inv.w 0)
 
 pub steps-step-seen-requires : goal.steps-step-seen-requires
 steps-step-seen-requires t c = (omega (arith, c.decreases), c.requires)
@@ -224,7 +224,7 @@ pub steps-overflow_add-from : goal.steps-overflow_add-from
 steps-overflow_add-from t c = omega (arith, sum_within c.args.w.now _ _ c.loop-i.invariant.0.loop.inside (told_good (tail (read_step (read_block c.args.left)) c.args.w.now _ c.step-seen.ensures) c.in-Tree.is).within)
 
 pub steps-overflow_add-i-in-loop-i : goal.steps-overflow_add-i-in-loop-i
-steps-overflow_add-i-in-loop-i t c = omega (arith, c.loop-i-test.true, c.shared_slice_known-2-1.given 0)
+steps-overflow_add-i-in-loop-i t c = omega (arith, c.loop-i-test.true, c.type_inv.w 0)
 
 pub steps-loop-i-smaller : goal.steps-loop-i-smaller
 steps-loop-i-smaller t c = omega (arith, c.loop-i-test.true)

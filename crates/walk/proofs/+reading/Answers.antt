@@ -80,7 +80,7 @@ pub arms-overflow_add-at : goal.arms-overflow_add-at
 arms-overflow_add-at t c = omega (arith, sum_within c.args.w.now _ _ c.loop-i.invariant.loop.inside (told_good (tail (read_arm (read_block c.args.left)) c.args.w.now _ c.arm-seen.ensures) c.in-Tree.is).within)
 
 pub arms-overflow_add-i : goal.arms-overflow_add-i
-arms-overflow_add-i t c = omega (arith, c.shared_slice_known-5-1.given 2)
+arms-overflow_add-i t c = omega (arith, c.type_inv.w 2)
 
 pub arms-loop-i-preserved : goal.arms-loop-i-preserved
 arms-loop-i-preserved t c = arms_turn (reading c.args.kinds.now c.args.numbers.now c.args.identities.now) (read_block c.args.left) c.loop-i.invariant c.loop-i-test.true _ _ _ _ _ _ _ (told_good (tail (read_arm (read_block c.args.left)) c.args.w.now _ c.arm-seen.ensures) c.in-Tree.is) (held_tail c.args.w.now _ c.fits-held.ensures) c.greater-top.ensures c.entered-stop.ensures c.still-free.ensures
@@ -101,13 +101,25 @@ pub block-steps-seen-requires : goal.block-steps-seen-requires
 block-steps-seen-requires t c = (omega (arith, c.decreases), tt)
 
 pub block-returns-in_default : goal.block-returns-in_default
-block-returns-in_default t c = record { is = block_none c.args.left c.args.w.now c.if-left-eq0.false (omega arith) (told_none (subst (λ v. Ends sites_in (walk (reading c.args.kinds.now c.args.numbers.now c.args.identities.now)) ((read_counted (read_block (c.args.left - 1))) v) v c.steps-seen.result) (inner_part c.args.w.now c.wide-n.result c.wide-n.ensures) c.steps-seen.ensures) c.in_default.is) }
+block-returns-in_default t c =
+    let stops = walk (reading c.args.kinds.now c.args.numbers.now c.args.identities.now) in
+    let read = read_counted (read_block (c.args.left - 1)) in
+    let steps = subst (λ v. Ends sites_in stops (read v) v c.steps-seen.result) (inner_part c.args.w.now c.wide-n.result c.wide-n.ensures) c.steps-seen.ensures in
+    record { is = block_none c.args.left c.args.w.now c.if-left-eq0.false (omega arith) (told_none steps c.in_default.is) }
 
 pub block-returns-then-m-n : goal.block-returns-then-m-n
-block-returns-then-m-n t c = record { is = block_left c.args.left c.args.w.now _ c.if-left-eq0.false (omega (arith, c.wide-n.ensures)) (λ q. omega (arith, c.wide-n.ensures)) (told_good (subst (λ v. Ends sites_in (walk (reading c.args.kinds.now c.args.numbers.now c.args.identities.now)) ((read_counted (read_block (c.args.left - 1))) v) v c.steps-seen.result) (inner_part c.args.w.now c.wide-n.result c.wide-n.ensures) c.steps-seen.ensures) c.in-Tree.is) }
+block-returns-then-m-n t c =
+    let stops = walk (reading c.args.kinds.now c.args.numbers.now c.args.identities.now) in
+    let read = read_counted (read_block (c.args.left - 1)) in
+    let steps = subst (λ v. Ends sites_in stops (read v) v c.steps-seen.result) (inner_part c.args.w.now c.wide-n.result c.wide-n.ensures) c.steps-seen.ensures in
+    record { is = block_left c.args.left c.args.w.now _ c.if-left-eq0.false (omega (arith, c.wide-n.ensures)) (λ q. omega (arith, c.wide-n.ensures)) (told_good steps c.in-Tree.is) }
 
 pub block-returns : goal.block-returns
-block-returns t c = record { is = block_found c.args.left c.args.w.now _ c.if-left-eq0.false (omega (arith, c.wide-n.ensures)) (omega (arith, c.wide-n.ensures)) (omega arith) (told_good (subst (λ v. Ends sites_in (walk (reading c.args.kinds.now c.args.numbers.now c.args.identities.now)) ((read_counted (read_block (c.args.left - 1))) v) v c.steps-seen.result) (inner_part c.args.w.now c.wide-n.result c.wide-n.ensures) c.steps-seen.ensures) c.in-Tree.is) }
+block-returns t c =
+    let stops = walk (reading c.args.kinds.now c.args.numbers.now c.args.identities.now) in
+    let read = read_counted (read_block (c.args.left - 1)) in
+    let steps = subst (λ v. Ends sites_in stops (read v) v c.steps-seen.result) (inner_part c.args.w.now c.wide-n.result c.wide-n.ensures) c.steps-seen.ensures in
+    record { is = block_found c.args.left c.args.w.now _ c.if-left-eq0.false (omega (arith, c.wide-n.ensures)) (omega (arith, c.wide-n.ensures)) (omega arith) (told_good steps c.in-Tree.is) }
 
 pub flow-returns-then-w-lt3 : goal.flow-returns-then-w-lt3
 flow-returns-then-w-lt3 t c = record { is = flow_short (read_block c.args.left) c.args.w.now (omega arith) }
@@ -206,7 +218,7 @@ pub steps-overflow_add-at : goal.steps-overflow_add-at
 steps-overflow_add-at t c = omega (arith, sum_within c.args.w.now _ _ c.loop-i.invariant.loop.inside (told_good (tail (read_step (read_block c.args.left)) c.args.w.now _ c.step-seen.ensures) c.in-Tree.is).within)
 
 pub steps-overflow_add-i : goal.steps-overflow_add-i
-steps-overflow_add-i t c = omega (arith, c.shared_slice_known-4-1.given 0)
+steps-overflow_add-i t c = omega (arith, c.type_inv.w 0)
 
 pub steps-loop-i-preserved : goal.steps-loop-i-preserved
 steps-loop-i-preserved t c = steps_turn (reading c.args.kinds.now c.args.numbers.now c.args.identities.now) (read_block c.args.left) c.loop-i.invariant c.loop-i-test.true _ _ _ _ _ (told_good (tail (read_step (read_block c.args.left)) c.args.w.now _ c.step-seen.ensures) c.in-Tree.is) c.greater-top.ensures c.first-stop.ensures

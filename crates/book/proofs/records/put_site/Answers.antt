@@ -7,9 +7,11 @@ use Rattle.book.proofs.records.put_site.Goals as goal
 pub returns-then-kind-eq7 : goal.returns-then-kind-eq7
 returns-then-kind-eq7 c =
     let args = c.args in
-    c.put6.ensures ∙ ap (sets args.sites.now args.at) (site_bound args.book.now args.o c.read8-kind.result c.read8-count.result c.read16-first.result c.read8.result c.read8-then-kind-eq7.result c.read32.result c.if-kind-eq7.true c.read8-kind.ensures c.read8-count.ensures c.read16-first.ensures.0 c.read8.ensures c.read8-then-kind-eq7.ensures c.read32.ensures)
+    let words = site_bound args.book.now args.o _ _ _ _ _ _ c.if-kind-eq7.true c.read8-kind.ensures c.read8-count.ensures c.read16-first.ensures.0 c.read8.ensures c.read8-then-kind-eq7.ensures c.read32.ensures in
+    c.put6.ensures ∙ ap (sets args.sites.now args.at) words
 
 pub returns-else-kind-eq7 : goal.returns-else-kind-eq7
 returns-else-kind-eq7 c =
     let args = c.args in
-    c.put6-else-kind-eq7.ensures ∙ ap (sets args.sites.now args.at) (site_plain args.book.now args.o c.read8-kind.result c.read8-count.result c.read16-first.result c.read16.result c.read16-else-kind-eq7.result c.read16-else-kind-eq7-2.result c.if-kind-eq7.false c.read8-kind.ensures c.read8-count.ensures c.read16-first.ensures.0 c.read16.ensures.0 c.read16-else-kind-eq7.ensures.0 c.read16-else-kind-eq7-2.ensures.0)
+    let words = site_plain args.book.now args.o _ _ _ _ _ _ c.if-kind-eq7.false c.read8-kind.ensures c.read8-count.ensures c.read16-first.ensures.0 c.read16.ensures.0 c.read16-else-kind-eq7.ensures.0 c.read16-else-kind-eq7-2.ensures.0 in
+    c.put6-else-kind-eq7.ensures ∙ ap (sets args.sites.now args.at) words

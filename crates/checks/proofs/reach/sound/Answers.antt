@@ -21,4 +21,7 @@ pub returns : goal.returns
 unfolding sound
 returns c =
     let args = c.args in
-    λ R. c.marked_sound.ensures R ∙ c.mark_named.ensures.judged (sound_from (book_of slots args.count R args.sites.now args.rules.now) (rule_at slots args.rules.now args.i)) ∙ and_rest (ap (λ (m : List ℕ). pending (sound_from (book_of slots args.count R args.sites.now args.rules.now) (rule_at slots args.rules.now args.i)) m args.count) c.no_marks-marks.ensures ∙ pending_none (sound_from (book_of slots args.count R args.sites.now args.rules.now) (rule_at slots args.rules.now args.i)) 252 args.count) refl
+    λ R.
+    let judge = sound_from (book_of slots args.count R args.sites.now args.rules.now) (rule_at slots args.rules.now args.i) in
+    let unmarked = ap (λ (m : List ℕ). pending judge m args.count) c.no_marks-marks.ensures ∙ pending_none judge 252 args.count in
+    c.marked_sound.ensures R ∙ c.mark_named.ensures.judged judge ∙ and_rest unmarked refl

@@ -16,7 +16,7 @@ pub sound-requires : goal.sound-requires
 sound-requires c =
     let args = c.args in
     let pre = c.requires in
-    (pre.0, pre.1, sourced slots args.site_count args.rule_count args.sites.now args.rules.now (λ k. (c.shared_slice_known-1.given k).fits) pre.4, omega arith, rule_passes slots args.site_count args.rule_count args.sites.now args.rules.now pre.5 c.loop-i.i c.loop-i-test.true)
+    (pre.0, pre.1, sourced slots args.site_count args.rule_count args.sites.now args.rules.now (λ k. (c.type_inv.sites k).fits) pre.4, omega arith, rule_passes slots args.site_count args.rule_count args.sites.now args.rules.now pre.5 c.loop-i.i c.loop-i-test.true)
 
 pub returns-then-not-sound : goal.returns-then-not-sound
 returns-then-not-sound c =

@@ -23,14 +23,18 @@ unfolding constraint_at
 returns-then-constrained_from c =
     let args = c.args in
     let loop = c.loop-k in
-    sym (sym loop.invariant.1 ∙ (ap (λ (l : List ℕ). once (map (constraint_at slots args.rules.now args.i) l)) ((in_range args.count).more loop.k c.loop-k-test.true)) ∙ and_first _ (ap not ((ap (λ (s : ℕ). any (is_on s) (map (constraint_at slots args.rules.now args.i) (from (loop.k + 1) (args.count - (loop.k + 1))))) (sym c.rule_word.ensures) ∙ sym c.constrained_from.ensures) ∙ c.if-constrained_from.true)))
+    let first = ap (λ (l : List ℕ). once (map (constraint_at slots args.rules.now args.i) l)) ((in_range args.count).more loop.k c.loop-k-test.true) in
+    let later = ap (λ (s : ℕ). any (is_on s) (map (constraint_at slots args.rules.now args.i) (from (loop.k + 1) (args.count - (loop.k + 1))))) (sym c.rule_word.ensures) ∙ sym c.constrained_from.ensures in
+    sym (sym loop.invariant.1 ∙ first ∙ and_first _ (ap not (later ∙ c.if-constrained_from.true)))
 
 pub loop-k-preserved : goal.loop-k-preserved
 unfolding constraint_at
 loop-k-preserved c =
     let args = c.args in
     let loop = c.loop-k in
-    (search rules, sym (sym loop.invariant.1 ∙ (ap (λ (l : List ℕ). once (map (constraint_at slots args.rules.now args.i) l)) ((in_range args.count).more loop.k c.loop-k-test.true)) ∙ and_rest (ap not ((ap (λ (s : ℕ). any (is_on s) (map (constraint_at slots args.rules.now args.i) (from (loop.k + 1) (args.count - (loop.k + 1))))) (sym c.rule_word.ensures) ∙ sym c.constrained_from.ensures) ∙ c.if-constrained_from.false)) refl))
+    let first = ap (λ (l : List ℕ). once (map (constraint_at slots args.rules.now args.i) l)) ((in_range args.count).more loop.k c.loop-k-test.true) in
+    let later = ap (λ (s : ℕ). any (is_on s) (map (constraint_at slots args.rules.now args.i) (from (loop.k + 1) (args.count - (loop.k + 1))))) (sym c.rule_word.ensures) ∙ sym c.constrained_from.ensures in
+    (search rules, sym (sym loop.invariant.1 ∙ first ∙ and_rest (ap not (later ∙ c.if-constrained_from.false)) refl))
 
 pub returns : goal.returns
 returns c =

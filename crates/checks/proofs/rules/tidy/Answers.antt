@@ -10,16 +10,21 @@ pub returns-then-not-zero_words : goal.returns-then-not-zero_words
 unfolding rule_tidy
 returns-then-not-zero_words c =
     let args = c.args in
-    sym (every_stop _ 0 ((ap (λ (n : ℕ). zero_from args.rules.now ((rule_words slots * args.i) + (6 + 4 * n)) (4 * (4 - n))) (sym (c.wide-constraints.ensures ∙ c.rule_word.ensures)) ∙ sym c.zero_words.ensures) ∙ c.if-not-zero_words.true))
+    let constraints = ap (λ (n : ℕ). zero_from args.rules.now ((rule_words slots * args.i) + (6 + 4 * n)) (4 * (4 - n))) (sym (c.wide-constraints.ensures ∙ c.rule_word.ensures)) ∙ sym c.zero_words.ensures in
+    sym (every_stop _ 0 (constraints ∙ c.if-not-zero_words.true))
 
 pub returns-then-not-zero_words-2 : goal.returns-then-not-zero_words-2
 unfolding rule_tidy
 returns-then-not-zero_words-2 c =
     let args = c.args in
-    sym (every_stop _ 1 ((ap (λ (n : ℕ). zero_from args.rules.now ((rule_words slots * args.i) + (22 + 2 * n)) (2 * (4 - n))) (sym (c.wide-pairs.ensures ∙ c.rule_word-2.ensures)) ∙ sym c.zero_words-2.ensures) ∙ c.if-not-zero_words-2.true))
+    let pairs = ap (λ (n : ℕ). zero_from args.rules.now ((rule_words slots * args.i) + (22 + 2 * n)) (2 * (4 - n))) (sym (c.wide-pairs.ensures ∙ c.rule_word-2.ensures)) ∙ sym c.zero_words-2.ensures in
+    sym (every_stop _ 1 (pairs ∙ c.if-not-zero_words-2.true))
 
 pub returns : goal.returns
 unfolding rule_tidy
 returns c =
     let args = c.args in
-    sym (every_rest _ ((ap (λ (n : ℕ). zero_from args.rules.now ((rule_words slots * args.i) + (6 + 4 * n)) (4 * (4 - n))) (sym (c.wide-constraints.ensures ∙ c.rule_word.ensures)) ∙ sym c.zero_words.ensures) ∙ c.if-not-zero_words.false) (every_rest _ ((ap (λ (n : ℕ). zero_from args.rules.now ((rule_words slots * args.i) + (22 + 2 * n)) (2 * (4 - n))) (sym (c.wide-pairs.ensures ∙ c.rule_word-2.ensures)) ∙ sym c.zero_words-2.ensures) ∙ c.if-not-zero_words-2.false) (every_one _ ∙ (ap (λ (n : ℕ). zero_from args.rules.now ((rule_words slots * args.i) + (30 + n)) (4 - n)) (sym (c.wide-impure.ensures ∙ c.rule_word-3.ensures)) ∙ sym c.zero_words-3.ensures))))
+    let constraints = ap (λ (n : ℕ). zero_from args.rules.now ((rule_words slots * args.i) + (6 + 4 * n)) (4 * (4 - n))) (sym (c.wide-constraints.ensures ∙ c.rule_word.ensures)) ∙ sym c.zero_words.ensures in
+    let pairs = ap (λ (n : ℕ). zero_from args.rules.now ((rule_words slots * args.i) + (22 + 2 * n)) (2 * (4 - n))) (sym (c.wide-pairs.ensures ∙ c.rule_word-2.ensures)) ∙ sym c.zero_words-2.ensures in
+    let impure = ap (λ (n : ℕ). zero_from args.rules.now ((rule_words slots * args.i) + (30 + n)) (4 - n)) (sym (c.wide-impure.ensures ∙ c.rule_word-3.ensures)) ∙ sym c.zero_words-3.ensures in
+    sym (every_rest _ (constraints ∙ c.if-not-zero_words.false) (every_rest _ (pairs ∙ c.if-not-zero_words-2.false) (every_one _ ∙ impure)))

@@ -10,24 +10,33 @@ use Rattle.definition.specs.Accept.{smaller_than}
 use Rattle.definition.specs.Lists.{upto, all}
 use Rattle.definition.specs.Tables.{site_word, source_at, site_at}
 use Rattle.laws.specs.Answers.{every_stop, every_rest, every_one}
+use Rattle.tables.specs.Held.{Words}
 use Rattle.checks.proofs.sites.site_ok.Goals as goal
 
 pub returns-then-not-shape_ok : goal.returns-then-not-shape_ok
 unfolding site_fine
 returns-then-not-shape_ok c =
-    let args = c.args in
-    sym (every_stop _ 0 ((shape_is args.sites.now (λ k. (c.shared_slice_known-1.given k).fits) args.s ∙ (let q : shape_words (site_word args.sites.now args.s 0) (site_word args.sites.now args.s 1) (site_word args.sites.now args.s 3) (site_word args.sites.now args.s 4) (site_word args.sites.now args.s 5) ≡ c.shape_ok.result = cc in q)) ∙ c.if-not-shape_ok.true))
+    let sites = c.args.sites.now in
+    let s = c.args.s in
+    let words : Words sites = λ k. (c.type_inv.sites k).fits in
+    let told : shape_words (site_word sites s 0) (site_word sites s 1) (site_word sites s 3) (site_word sites s 4) (site_word sites s 5) ≡ c.shape_ok.result = cc in
+    sym (every_stop _ 0 (shape_is sites words s ∙ told ∙ c.if-not-shape_ok.true))
 
 pub sources_smaller-requires : goal.sources_smaller-requires
 sources_smaller-requires c =
-    let args = c.args in
-    let f = (shape_count (site_word args.sites.now args.s 0) (site_word args.sites.now args.s 1) (site_word args.sites.now args.s 3) (site_word args.sites.now args.s 4) (site_word args.sites.now args.s 5) ((let q : shape_words (site_word args.sites.now args.s 0) (site_word args.sites.now args.s 1) (site_word args.sites.now args.s 3) (site_word args.sites.now args.s 4) (site_word args.sites.now args.s 5) ≡ c.shape_ok.result = cc in q) ∙ c.if-not-shape_ok.false)) in omega arith
+    let sites = c.args.sites.now in
+    let s = c.args.s in
+    let told : shape_words (site_word sites s 0) (site_word sites s 1) (site_word sites s 3) (site_word sites s 4) (site_word sites s 5) ≡ c.shape_ok.result = cc in
+    let few = shape_count _ _ _ _ _ (told ∙ c.if-not-shape_ok.false) in
+    omega arith
 
 pub returns-then-not-sources_smaller : goal.returns-then-not-sources_smaller
 unfolding site_fine site_at
 returns-then-not-sources_smaller c =
-    let args = c.args in
-    sym (every_stop _ 1 ((ap (λ (n : ℕ). all (smaller_than args.s) (map (source_at args.sites.now args.s) (upto n))) (sym c.site_word-count.ensures ∙ sym c.wide.ensures) ∙ sym c.sources_smaller.ensures) ∙ c.if-not-sources_smaller.true))
+    let sites = c.args.sites.now in
+    let s = c.args.s in
+    let counted = ap (λ (n : ℕ). all (smaller_than s) (map (source_at sites s) (upto n))) (sym c.site_word-count.ensures ∙ sym c.wide.ensures) in
+    sym (every_stop _ 1 (counted ∙ sym c.sources_smaller.ensures ∙ c.if-not-sources_smaller.true))
 
 pub returns-then-not-no_twin_before : goal.returns-then-not-no_twin_before
 unfolding site_fine
@@ -35,11 +44,22 @@ returns-then-not-no_twin_before c = sym (every_stop _ 2 (sym c.no_twin_before.en
 
 pub tidy-requires : goal.tidy-requires
 tidy-requires c =
-    let args = c.args in
-    let f = (shape_count (site_word args.sites.now args.s 0) (site_word args.sites.now args.s 1) (site_word args.sites.now args.s 3) (site_word args.sites.now args.s 4) (site_word args.sites.now args.s 5) ((let q : shape_words (site_word args.sites.now args.s 0) (site_word args.sites.now args.s 1) (site_word args.sites.now args.s 3) (site_word args.sites.now args.s 4) (site_word args.sites.now args.s 5) ≡ c.shape_ok.result = cc in q) ∙ c.if-not-shape_ok.false)) in omega arith
+    let sites = c.args.sites.now in
+    let s = c.args.s in
+    let told : shape_words (site_word sites s 0) (site_word sites s 1) (site_word sites s 3) (site_word sites s 4) (site_word sites s 5) ≡ c.shape_ok.result = cc in
+    let few = shape_count _ _ _ _ _ (told ∙ c.if-not-shape_ok.false) in
+    omega arith
 
 pub returns : goal.returns
 unfolding site_fine site_at
 returns c =
-    let args = c.args in
-    sym (every_rest _ ((shape_is args.sites.now (λ k. (c.shared_slice_known-1.given k).fits) args.s ∙ (let q : shape_words (site_word args.sites.now args.s 0) (site_word args.sites.now args.s 1) (site_word args.sites.now args.s 3) (site_word args.sites.now args.s 4) (site_word args.sites.now args.s 5) ≡ c.shape_ok.result = cc in q)) ∙ c.if-not-shape_ok.false) (every_rest _ ((ap (λ (n : ℕ). all (smaller_than args.s) (map (source_at args.sites.now args.s) (upto n))) (sym c.site_word-count.ensures ∙ sym c.wide.ensures) ∙ sym c.sources_smaller.ensures) ∙ c.if-not-sources_smaller.false) (every_rest _ (sym c.no_twin_before.ensures ∙ c.if-not-no_twin_before.false) (every_one _ ∙ sym c.tidy.ensures))))
+    let sites = c.args.sites.now in
+    let s = c.args.s in
+    let words : Words sites = λ k. (c.type_inv.sites k).fits in
+    let told : shape_words (site_word sites s 0) (site_word sites s 1) (site_word sites s 3) (site_word sites s 4) (site_word sites s 5) ≡ c.shape_ok.result = cc in
+    let counted = ap (λ (n : ℕ). all (smaller_than s) (map (source_at sites s) (upto n))) (sym c.site_word-count.ensures ∙ sym c.wide.ensures) in
+    sym (
+    every_rest _ (shape_is sites words s ∙ told ∙ c.if-not-shape_ok.false)
+    (every_rest _ (counted ∙ sym c.sources_smaller.ensures ∙ c.if-not-sources_smaller.false)
+    (every_rest _ (sym c.no_twin_before.ensures ∙ c.if-not-no_twin_before.false)
+    (every_one _ ∙ sym c.tidy.ensures))))

@@ -54,7 +54,10 @@ never_listed-requires t c = c.requires.0.sited _ c.requires.1.0
 pub returns-then-never_listed : goal.returns-then-never_listed
 returns-then-never_listed t c =
     let long : length c.args.scope.states ≡ most = search rules in
-    λ b d f h. use_unlisted d _ c.requires.1.0 f h _ (omega (arith, long, c.requires.0.few, c.requires.1.0)) (omega (arith, c.if-scope-x-ge-EMITTED.false)) (from_marked c.args.scope c.args.x c.set_ready.ensures (turning_ends (c.loop-k.invariant.1.1.1.1 b d (f - 1) (omega arith)) (omega (arith, c.source_count-sources.ensures.0, c.loop-k-test.false)))) (sym c.never_listed.ensures ∙ c.if-never_listed.true)
+    λ b d f h.
+    let ended = turning_ends (c.loop-k.invariant.1.1.1.1 b d (f - 1) (omega arith)) (omega (arith, c.source_count-sources.ensures.0, c.loop-k-test.false)) in
+    let marked = from_marked c.args.scope c.args.x c.set_ready.ensures ended in
+    use_unlisted d _ c.requires.1.0 f h _ (omega (arith, long, c.requires.0.few, c.requires.1.0)) (omega (arith, c.if-scope-x-ge-EMITTED.false)) marked (sym c.never_listed.ensures ∙ c.if-never_listed.true)
 
 pub overflow_cast-x : goal.overflow_cast-x
 overflow_cast-x t c = omega (arith, c.requires.0.few, c.requires.1.0)
@@ -68,4 +71,7 @@ overflow_add-lets-2 t c = omega (arith, c.loop-k.invariant.1.1.0)
 pub returns : goal.returns
 returns t c =
     let long : length c.args.scope.states ≡ most = search rules in
-    λ b d f h. use_listed d _ c.requires.1.0 f h _ (omega (arith, long, c.requires.0.few, c.requires.1.0)) (omega (arith, c.if-scope-x-ge-EMITTED.false)) (from_marked c.args.scope c.args.x c.set_ready.ensures (turning_ends (c.loop-k.invariant.1.1.1.1 b d (f - 1) (omega arith)) (omega (arith, c.source_count-sources.ensures.0, c.loop-k-test.false)))) (sym c.never_listed.ensures ∙ c.if-never_listed.false) c.put_word-at.ensures
+    λ b d f h.
+    let ended = turning_ends (c.loop-k.invariant.1.1.1.1 b d (f - 1) (omega arith)) (omega (arith, c.source_count-sources.ensures.0, c.loop-k-test.false)) in
+    let marked = from_marked c.args.scope c.args.x c.set_ready.ensures ended in
+    use_listed d _ c.requires.1.0 f h _ (omega (arith, long, c.requires.0.few, c.requires.1.0)) (omega (arith, c.if-scope-x-ge-EMITTED.false)) marked (sym c.never_listed.ensures ∙ c.if-never_listed.false) c.put_word-at.ensures

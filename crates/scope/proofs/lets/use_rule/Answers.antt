@@ -34,7 +34,23 @@ pub loop-k-smaller : goal.loop-k-smaller
 loop-k-smaller c = omega (arith, c.loop-k-test.true)
 
 pub loop-k-preserved : goal.loop-k-preserved
-loop-k-preserved c = let p = (c.use_expr-used.ensures (sites_only _ _) (sites_drawn _ _) (suc c.impure-x.result) (omega arith)) in (omega (arith, c.loop-k-test.true), (p.wrote.size ∙ c.loop-k.invariant.1.0, (omega (arith, placed_few p, c.loop-k.invariant.1.1.0), (placed_fits p, λ b d. turning_turn (c.loop-k.invariant.1.1.1.1 b d) (omega (arith, c.impure_count-count.ensures.0, c.loop-k-test.true)) c.impure-x.ensures (placed_site b _ (c.use_expr-used.ensures b d _ (omega arith)))))))
+loop-k-preserved c =
+    let inv = c.loop-k.invariant in
+    let used = c.use_expr-used.ensures (sites_only _ _) (sites_drawn _ _) (suc c.impure-x.result) (omega arith) in (
+      omega (arith, c.loop-k-test.true),
+      (
+        used.wrote.size ∙ inv.1.0,
+        (
+          omega (arith, placed_few used, inv.1.1.0),
+          (
+            placed_fits used,
+            λ b d.
+                turning_turn (inv.1.1.1.1 b d) (omega (arith, c.impure_count-count.ensures.0, c.loop-k-test.true)) c.impure-x.ensures
+                (placed_site b _ (c.use_expr-used.ensures b d _ (omega arith))),
+          ),
+        ),
+      ),
+    )
 
 pub result-requires : goal.result-requires
 result-requires c = c.requires.1.0.held
