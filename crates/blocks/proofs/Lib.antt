@@ -4,7 +4,7 @@ pub mod Ready
 mod Scoping
 mod Returning
 mod Choosing
-mod Framing
+pub mod Laying
 mod Stepping
 mod Arms
 mod Making

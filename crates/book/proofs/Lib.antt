@@ -1,3 +1,3 @@
 -- Laws that the proofs of `book` share.
-mod Recording
-mod Replies
+pub mod Recording
+pub mod Replies

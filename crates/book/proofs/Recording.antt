@@ -1,11 +1,14 @@
 -- The words of a record are the fields that were read.
-use Prim.Native.Nat.{ℕ, ◌+◌, ◌*◌}
-use mathlib.Core.Path.{◌≡◌, refl, sym, ap, ◌∙◌}
+use Prim.Native.Nat.{ℕ, ◌+◌, ◌*◌, ◌≤◌}
+use mathlib.Core.Path.{◌≡◌, refl, sym, ap, ap₂, ◌∙◌}
 use mathlib.Core.Bool.{Bool, true, false}
-use mathlib.Core.List.{List, [], ◌∷◌, map}
+use mathlib.Core.List.{List, [], ◌∷◌, ◌++◌, map}
 use native.Mathlib.Omega.{arith}
-use lib.ListN.{length, length-append}
-use lib.Seq.{sets}
+use lib.ListN.{length, take, drop, length-append}
+use lib.Seq.{sets, sets-eq}
+use Rattle.std.proofs.Common.{append_assoc}
+use Rattle.std.proofs.lemmas.List.{drop-drop}
+use borrow.Rule.Slice.PartMut.{put_mid}
 use borrow.Author.Tests.{eq-eqb, ne_eqb}
 use Rattle.definition.specs.Lists.{◌is◌, upto, flat}
 use Rattle.std.specs.Prelude.{if◌then◌else◌}
@@ -38,11 +41,6 @@ unfolding site_table site_record
 length_site_table b S = flat_length (site_record b) 6 S (λ i. length_site_fields b _)
 
 -- RULES
-pub constraint_read : (b : List ℕ) (o k w x y z : ℕ) → w ≡ le16 b (o + 14 + 8 * k) → x ≡ byte b (o + 14 + 8 * k + 2) → y ≡ byte b (o + 14 + 8 * k + 3) → z ≡ le32 b (o + 14 + 8 * k + 4)
-    → (w ∷ x ∷ y ∷ z ∷ []) ≡ constraint_fields b o k
-unfolding constraint_fields
-constraint_read b o k w x y z p q r s = rw (p, q, r, s)
-
 pub four_fields : (b : List ℕ) (o k : ℕ) → length (constraint_fields b o k) ≡ 4
 unfolding constraint_fields
 four_fields b o k = refl
@@ -71,3 +69,11 @@ rule_run b o at u v w x y z l l1 l2 l3 eu ev ew ex ey ez e1 e2 e3 =
 pub length_rule_table : (b : List ℕ) (S R : ℕ) → length (rule_table slots b S R) ≡ 34 * R
 unfolding rule_table rule_record
 length_rule_table b S R = flat_length (rule_record slots S b) 34 R (λ i. length_rule_fields b _)
+
+-- a run of words written over a part of a list
+pub written : (l ys vs : List ℕ) (at k : ℕ) → ys ≡ vs → k ≡ length vs → at + length vs ≤ length l → put_mid at k l ys ≡ sets l at vs
+written l ys vs at k e n h =
+    ap₂ (λ (x : List ℕ) (m : ℕ). put_mid at m l x) e n
+    ∙ ap (λ (r : List ℕ). take at l ++ (vs ++ r)) (drop-drop (length vs) at l)
+    ∙ sym (append_assoc (take at l) vs (drop (at + length vs) l))
+    ∙ sym (sets-eq vs l at h)

@@ -1,9 +1,10 @@
 -- Laws that the proofs of `checks` share.
-mod Shape
-mod SiteTests
+pub mod Records
+pub mod Shape
+pub mod SiteTests
 pub mod RuleTests
-mod RulePairs
-mod Marking
-mod Soundness
-mod Naming
-mod Visits
+pub mod RulePairs
+pub mod Marking
+pub mod Soundness
+pub mod Naming
+pub mod Visits

@@ -1,46 +1,20 @@
 -- Refusal 5 in words is refusal 5.
-use Prim.Native.Nat.{ℕ, ◌+◌, ◌*◌, ◌<◌}
-use mathlib.Core.Path.{◌≡◌, sym, ap, ◌∙◌}
-use mathlib.Core.Bool.{Bool, true, false, ◌&&◌}
+use Prim.Native.Nat.{ℕ, zero, suc, ◌+◌, ◌-◌, ◌<◌}
+use mathlib.Core.Path.{◌≡◌, refl, sym, ap, ap₂, ◌∙◌}
+use mathlib.Core.Bool.{Bool, true, ◌&&◌, not}
 use mathlib.Core.List.{List, [], ◌∷◌, map}
 use native.Mathlib.Omega.{arith}
-use lib.Dec.{eqb, leb}
-use borrow.Author.Tests.{ne_eqb, lt-ltb, le-leb, lt-leb, leb-true}
-use Rattle.definition.specs.Lists.{◌below◌, ◌at_most◌, every, all, upto}
-use Rattle.definition.specs.Book.{pair_slots, impure_slots}
-use Rattle.definition.specs.Tables.{rule_words, rule_word, constraint_start, constraint_at, pair_at, impure_at, rule_at, rule_tidy, book_of}
-use Rattle.definition.specs.Accept.{pattern_ok, constraint_ok, pair_ok, smaller_than, once, rule_ok, rules_ok}
+use Rattle.std.proofs.Common.{add-one}
+use borrow.Author.Tests.{leb-true}
+use Rattle.definition.specs.Lists.{◌below◌, ◌at_most◌, every, all, any, from, upto}
+use Rattle.definition.specs.Book.{Constraint, pair_slots, impure_slots, is_on}
+use Rattle.definition.specs.Tables.{rule_word, constraint_at, pair_at, impure_at, rule_at, rule_tidy, book_of}
+use Rattle.definition.specs.Accept.{constraint_ok, pair_ok, smaller_than, once, rule_ok, rules_ok}
 use Rattle.definition.specs.Bytes.{rules_pass}
 use Rattle.laws.specs.Tests.{both, every_at}
-use Rattle.laws.specs.Answers.{and-true, every_stop}
 use Rattle.laws.specs.Turns.{length_map_upto, all_map, all_and, upto_at}
-use Rattle.checks.specs.Words.{pattern_words, CountsFit, Counted, rule_fine}
+use Rattle.checks.specs.Words.{CountsFit, Counted, rule_fine}
 use Rattle.theorems.specs.Refusals.{sites_length}
-use Rattle.tables.specs.Held.{Words}
-use Rattle.tables.proofs.Signs.{zero_word}
-
--- A PATTERN, kind by kind
-module _ (k f z : ℕ) where
-  pub pattern_high : 3 < k → pattern_words k f z ≡ false
-  unfolding pattern_words
-  pattern_high h = every_stop _ 0 (lt-leb k 3 h)
-
-  pub pattern_plain : k < 2 → pattern_words k f z ≡ eqb f 0
-  unfolding pattern_words every
-  pattern_plain h = rw (le-leb k 3 (omega arith), lt-ltb k 2 h, ne_eqb k 2 (omega arith), ne_eqb k 3 (omega arith)) (and-true (eqb f 0))
-
-  pub pattern_variant : k ≡ 2 → pattern_words k f z ≡ leb f 4
-  unfolding pattern_words every
-  pattern_variant h = rw h (and-true (leb f 4))
-
-  pub pattern_some : k ≡ 3 → pattern_words k f z ≡ eqb f 1 && eqb z 0
-  unfolding pattern_words every
-  pattern_some h = rw h (and-true (eqb f 1 && eqb z 0))
-
-pub constraint_is : (n S : ℕ) (u : List ℕ) → Words u → (i k : ℕ) → constraint_ok S (constraint_at n u i k)
-    ≡ (rule_word n u i (constraint_start k) below S) && pattern_words (rule_word n u i (constraint_start k + 1)) (rule_word n u i (constraint_start k + 2)) (rule_word n u i (constraint_start k + 3))
-unfolding constraint_ok pattern_ok constraint_at pattern_words
-constraint_is n S u h i k = rw (← zero_word (rule_word n u i (constraint_start k + 3)) (h (rule_words n * i + (constraint_start k + 3))))
 
 -- A RULE, its counts in words
 module _ (n S : ℕ) (u : List ℕ) (i : ℕ) where
@@ -77,3 +51,13 @@ rule_passes n S R t u e i h = (both (rule_tidy n u i) (rule_ok n S (rule_at n u 
 
 pub counted : (n S R : ℕ) (t u : List ℕ) → rules_pass n S R t u ≡ true → Counted n R u
 counted n S R t u e = record { each = λ i h. counts_fit n S u i (rule_passes n S R t u e i h) }
+
+-- each constraint is on a site of none behind it
+pub once_is : (g : ℕ → Constraint) (n : ℕ) → all (λ k. not (any (is_on (g k).site) (map g (from (k + 1) (n - (k + 1)))))) (upto n) ≡ once (map g (upto n))
+once_is g n = go n 0 n (omega arith)
+  where
+    go : (m a n : ℕ) → a + m ≡ n → all (λ k. not (any (is_on (g k).site) (map g (from (k + 1) (n - (k + 1)))))) (from a m) ≡ once (map g (from a m))
+    go zero a n e = refl
+    go (suc m) a n e =
+        let l : n - (a + 1) ≡ m = omega arith in
+        ap₂ (λ x y. x && y) (rw (l, add-one a)) (go m (suc a) n (omega arith))

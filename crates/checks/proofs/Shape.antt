@@ -60,3 +60,5 @@ module _ (k n p q z : ℕ) where
     pub bound_number : n ≡ 1 → p ≡ 3 → q ≡ 0 → shape_words k n p q z ≡ eqb z 0
     unfolding shape_words every
     bound_number g e f = rw (h, g, e, f) (and-true (eqb z 0))
+
+pub ruleset shapes = (shape_high, shape_none, shape_one, shape_many, bound_count, bound_variant, bound_pattern, bound_position, bound_number)

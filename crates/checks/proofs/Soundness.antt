@@ -1,5 +1,5 @@
 -- Refusal 8's recursion without its fuel, and what tables that pass 4 and 5 leave to know.
-use Prim.Native.Nat.{ℕ, zero, suc, ◌+◌, ◌*◌, ◌<◌}
+use Prim.Native.Nat.{ℕ, zero, suc, ◌+◌, ◌*◌, ◌^◌, ◌<◌}
 use mathlib.Core.Path.{◌≡◌, refl, sym, ap, ap₂, ◌∙◌}
 use mathlib.Core.Bool.{Bool, true, ◌&&◌}
 use mathlib.Core.List.{List, [], ◌∷◌, map}
@@ -8,7 +8,7 @@ use lib.Dec.{ltb}
 use borrow.Author.Tests.{eq-eqb, eqb-true, ltb-true, lt-ltb}
 use Rattle.definition.specs.Lists.{◌is◌, ◌below◌, ◌implies◌, every, all, upto}
 use Rattle.definition.specs.Book.{Book, Rule, Site, site}
-use Rattle.definition.specs.Tables.{site_words, site_word, source_at, site_at, rule_words, rule_word, constraint_start, constraint_at, rule_at, book_of}
+use Rattle.definition.specs.Tables.{site_words, site_word, source_at, site_at, rule_word, constraint_start, constraint_at, rule_at, book_of}
 use Rattle.definition.specs.Accept.{smaller_than, grants, granted, sound_below, sound_from, sound, sound_ok}
 use Rattle.definition.specs.Bytes.{sites_pass}
 use Rattle.laws.specs.Tests.{both, implied, every_at}
@@ -60,10 +60,10 @@ module _ (n S R : ℕ) (t u : List ℕ) (r : Rule) (h : Sourced S t) where
       ∙ ap (λ (y : Site). (y.kind is 7 implies granted r y) && all (sound_from (book_of n S R t u) r) y.sources) (site_is n S R t u s l)
 
 -- WHAT REFUSAL 4 LEAVES TO KNOW
-fits_at : (t : List ℕ) → Words t → (s : ℕ) → site_fine t s ≡ true → SourcesFit t s
+fits_at : (t : List ℕ) → Words t → (s : ℕ) → site_fine t t s s ≡ true → SourcesFit t s s
 unfolding site_fine site_at smaller_than shape_words
 fits_at t h s e =
-    let shape : shape_words (site_word t s 0) (site_word t s 1) (site_word t s 3) (site_word t s 4) (site_word t s 5) ≡ true = sym (shape_is t h s) ∙ every_at _ 0 e in
+    let shape : shape_words (site_word t s 0) (site_word t s 1) (site_word t s 3) (site_word t s 4) (site_word t s 5) ≡ true = sym (shape_is t s (h (site_words * s + 5))) ∙ every_at _ 0 e in
     let lower : all (smaller_than s) (map (source_at t s) (upto (site_word t s 1))) ≡ true = every_at _ 1 e in
     record {
       few = shape_count (site_word t s 0) (site_word t s 1) (site_word t s 3) (site_word t s 4) (site_word t s 5) shape;
@@ -72,18 +72,19 @@ fits_at t h s e =
     }
 
 pub sourced : (n S R : ℕ) (t u : List ℕ) → Words t → sites_pass n S R t u ≡ true → Sourced S t
-sourced n S R t u h e = record { each = λ s l. fits_at t h s (upto_at (site_fine t) S s (sites_pass_is n S R t u ∙ e) l) }
+sourced n S R t u h e = record { each = λ s l. fits_at t h s (upto_at (λ s. site_fine t t s s) S s (sites_pass_is n S R t u ∙ e) l) }
 
 -- A CONSTRAINT GRANTS A KIND 7 SITE, in words
-pub grants_is : (n : ℕ) (t u : List ℕ) → Words t → Words u → (s i k : ℕ) → site_word t s 0 ≡ 7 → site_word t s 1 ≡ 1 → grants (site_at t s) (constraint_at n u i k) ≡ every (
+pub grants_is : (n : ℕ) (t : List ℕ) (s : ℕ) (u : List ℕ) (i k : ℕ) → rule_word n u i (constraint_start k + 3) < 2 ^ 32 → site_word t s 5 < 2 ^ 32
+    → site_word t s 0 ≡ 7 → site_word t s 1 ≡ 1 → grants (site_at t s) (constraint_at n u i k) ≡ every (
     site_word t s 2 is rule_word n u i (constraint_start k)
     ∷ rule_word n u i (constraint_start k + 1) is site_word t s 3
     ∷ rule_word n u i (constraint_start k + 3) is site_word t s 5
     ∷ site_word t s 4 below rule_word n u i (constraint_start k + 2)
     ∷ [])
 unfolding grants site_at source_at constraint_at
-grants_is n t u ht hu s i k e f =
-    rw (eq-eqb (site_word t s 0) 7 e, f, ← same_word (rule_word n u i (constraint_start k + 3)) (site_word t s 5) (hu (rule_words n * i + (constraint_start k + 3))) (ht (site_words * s + 5)))
+grants_is n t s u i k hu ht e f =
+    rw (eq-eqb (site_word t s 0) 7 e, f, ← same_word (rule_word n u i (constraint_start k + 3)) (site_word t s 5) hu ht)
 
 -- THE WHOLE
 pub sound_ok_is : (n S R : ℕ) (t u : List ℕ) → all (λ i. sound (book_of n S R t u) (rule_at n u i)) (upto R) ≡ sound_ok (book_of n S R t u)

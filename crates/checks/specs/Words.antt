@@ -1,7 +1,7 @@
 -- What the tests of one site and of one rule come to, said of the tables: what the private contracts of `checks` cite.
 use Rattle.std.specs.Prelude.{Bool, ◌&&◌, ◌||◌, not, List, [], ◌∷◌, ℕ, ◌+◌, ◌≤◌, ◌<◌}
 use Rattle.definition.specs.Lists.{◌is◌, ◌below◌, ◌at_most◌, ◌implies◌, every, all, upto}
-use Rattle.definition.specs.Book.{pair_slots, impure_slots}
+use Rattle.definition.specs.Book.{Site, Rule, pair_slots, impure_slots}
 use Rattle.definition.specs.Tables.{site_at, site_tidy, rule_word, rule_at, rule_tidy}
 use Rattle.definition.specs.Accept.{shape_ok, twins, smaller_than, rule_ok, agrees_with}
 
@@ -17,26 +17,17 @@ shape_words kind count pattern position number = every (
     ∷ (kind is 7 && pattern is 3 implies position is 0 && number is 0)
     ∷ [])
 
--- site r of the table is no twin of site s
-unfoldable pub twinless : List ℕ → ℕ → ℕ → Bool
-twinless t s r = not (twins (site_at t r) (site_at t s))
+-- site r of the table is no twin of x
+unfoldable pub twinless : List ℕ → Site → ℕ → Bool
+twinless t x r = not (twins (site_at t r) x)
 
--- site s of the table, with the sites before it
-unfoldable pub site_fine : List ℕ → ℕ → Bool
-site_fine t s = every (
-    shape_ok (site_at t s)
-    ∷ all (smaller_than s) (site_at t s).sources
-    ∷ all (twinless t s) (upto s)
-    ∷ site_tidy t s
-    ∷ [])
-
--- REFUSAL 5: kind, field count and number of a pattern
-unfoldable pub pattern_words : ℕ → ℕ → ℕ → Bool
-pattern_words kind fields number = every (
-    kind at_most 3
-    ∷ (kind below 2 implies fields is 0)
-    ∷ (kind is 2 implies fields at_most 4)
-    ∷ (kind is 3 implies fields is 1 && number is 0)
+-- site i of the table w, as site s of the table t: with the sites before it
+unfoldable pub site_fine : List ℕ → List ℕ → ℕ → ℕ → Bool
+site_fine t w i s = every (
+    shape_ok (site_at w i)
+    ∷ all (smaller_than s) (site_at w i).sources
+    ∷ all (twinless t (site_at w i)) (upto s)
+    ∷ site_tidy w i
     ∷ [])
 
 -- the counts of rule i fit its n constraint slots, its pair slots and its impure slots
@@ -53,10 +44,10 @@ pub record Counted (n R : ℕ) (u : List ℕ) : Type 0 where
 unfoldable pub rule_fine : ℕ → ℕ → List ℕ → ℕ → Bool
 rule_fine n S u i = rule_tidy n u i && rule_ok n S (rule_at n u i)
 
--- REFUSAL 6: every constraint of rule i agrees with every constraint of rule j
-unfoldable pub rules_agree : ℕ → List ℕ → ℕ → ℕ → Bool
-rules_agree n u i j = all (agrees_with (rule_at n u j).constraints) (rule_at n u i).constraints
+-- REFUSAL 6: every constraint of rule r agrees with every constraint of rule s
+unfoldable pub rules_agree : Rule → Rule → Bool
+rules_agree r s = all (agrees_with s.constraints) r.constraints
 
 -- those of rule i agree with those of the rules up to it
 unfoldable pub agrees_so_far : ℕ → List ℕ → ℕ → Bool
-agrees_so_far n u i = all (rules_agree n u i) (upto (i + 1))
+agrees_so_far n u i = all (λ j. rules_agree (rule_at n u i) (rule_at n u j)) (upto (i + 1))

@@ -3,67 +3,49 @@ ghost use Rattle.std.specs.Prelude.{◌≡◌, List, ℕ, ◌+◌, ◌*◌, ◌<
 ghost use Rattle.definition.specs.Book.{most, slots};
 ghost use Rattle.definition.specs.Tables.{rule_words, constraint_at, rule_at, book_of};
 ghost use Rattle.definition.specs.Accept.{fields_agree, agrees_with, fields_ok};
-ghost use Rattle.checks.specs.Words.{CountsFit, Counted, rules_agree, agrees_so_far};
+ghost use Rattle.checks.specs.Words.{Counted, rules_agree, agrees_so_far};
 
-// Constraint `k` of rule `i` and constraint `m` of rule `j`.
-fn fields_agree(rules: &[u32], i: usize, k: usize, j: usize, m: usize) -> bool
-    requires { (rule_words slots * i + rule_words slots ≤ length rules.now) × (k < slots) × (j ≤ i) × (m < slots) }
-    ensures { result ≡ fields_agree (constraint_at slots rules.now i k) (constraint_at slots rules.now j m) }
+use crate::words::{CountedRule, counted_rule};
+use tables::{CONSTRAINT_COUNT_WORD, CONSTRAINT_WORDS, CONSTRAINTS_WORD, RULE_WORDS};
+
+// Constraint `k` of a rule and constraint `m` of another.
+#[tactic(auto, using(crate::proofs::RulePairs::agree_is))]
+fn fields_agree(rule: &[u32; RULE_WORDS], k: usize, other: &[u32; RULE_WORDS], m: usize) -> bool
+    requires { (k < slots) × (m < slots) }
+    ensures { result ≡ fields_agree (constraint_at slots rule.now 0 k) (constraint_at slots other.now 0 m) }
 {
-    let c = 6 + 4 * k;
-    let d = 6 + 4 * m;
-    if tables::rule_word(rules, i, c) != tables::rule_word(rules, j, d) {
-        return true;
-    }
-    if tables::rule_word(rules, i, c + 1) != tables::rule_word(rules, j, d + 1) {
-        return true;
-    }
-    if tables::rule_word(rules, i, c + 3) != tables::rule_word(rules, j, d + 3) {
-        return true;
-    }
-    tables::rule_word(rules, i, c + 2) == tables::rule_word(rules, j, d + 2)
+    let c = CONSTRAINTS_WORD + CONSTRAINT_WORDS * k;
+    let d = CONSTRAINTS_WORD + CONSTRAINT_WORDS * m;
+    // Read before the chain, so that the range of both words is known to the whole of its proof.
+    let same_number = rule[c + 3] == other[d + 3];
+    let same = rule[c] == other[d] && rule[c + 1] == other[d + 1] && same_number;
+    !same || rule[c + 2] == other[d + 2]
 }
 
-// Constraint `k` of rule `i` and all of rule `j`.
-fn agrees_with(rules: &[u32], i: usize, k: usize, j: usize) -> bool
-    requires { (rule_words slots * i + rule_words slots ≤ length rules.now) × (k < slots) × (j ≤ i) × CountsFit slots rules.now j }
-    ensures { result ≡ agrees_with (rule_at slots rules.now j).constraints (constraint_at slots rules.now i k) }
+// Constraint `k` of a rule and all of another.
+fn agrees_with(rule: &CountedRule, k: usize, other: &CountedRule) -> bool
+    requires { k < slots }
+    ensures { result ≡ agrees_with (rule_at slots other.now.words.now 0).constraints (constraint_at slots rule.now.words.now 0 k) }
 {
-    let count = tables::wide(tables::rule_word(rules, j, 3));
-    for m in 0..count {
-        if !fields_agree(rules, i, k, j, m) {
-            return false;
-        }
-    }
-    true
+    let count = other.words[CONSTRAINT_COUNT_WORD] as usize;
+    (0..count).all(|m| fields_agree(rule.words, k, other.words, m))
 }
 
-// All of rule `i` and all of rule `j`.
-fn rules_agree(rules: &[u32], i: usize, j: usize) -> bool
-    requires { (rule_words slots * i + rule_words slots ≤ length rules.now) × (j ≤ i) × CountsFit slots rules.now i × CountsFit slots rules.now j }
-    ensures { result ≡ rules_agree slots rules.now i j }
+// All of a rule and all of another.
+fn rules_agree(rule: &CountedRule, other: &CountedRule) -> bool
+    ensures { result ≡ rules_agree (rule_at slots rule.now.words.now 0) (rule_at slots other.now.words.now 0) }
 {
-    let count = tables::wide(tables::rule_word(rules, i, 3));
-    for k in 0..count {
-        if !agrees_with(rules, i, k, j) {
-            return false;
-        }
-    }
-    true
+    let count = rule.words[CONSTRAINT_COUNT_WORD] as usize;
+    (0..count).all(|k| agrees_with(rule, k, other))
 }
 
 // Rule `i` and the rules up to it: to agree is mutual, so the later ones need not be asked.
 fn agrees_so_far(rules: &[u32], i: usize) -> bool
-    requires { (rule_words slots * i + rule_words slots ≤ length rules.now) × (i < most) × Counted slots (i + 1) rules.now }
+    requires { (rule_words slots * (i + 1) ≤ length rules.now) × (i < most) × Counted slots (i + 1) rules.now }
     ensures { result ≡ agrees_so_far slots rules.now i }
 {
-    let count = i + 1;
-    for j in 0..count {
-        if !rules_agree(rules, i, j) {
-            return false;
-        }
-    }
-    true
+    let rule = counted_rule(rules, i);
+    (0..i + 1).all(|j| rules_agree(&rule, &counted_rule(rules, j)))
 }
 
 // Internal: refusal 6 is not given to a table of `count` rules.
@@ -71,10 +53,5 @@ pub fn fields_ok(rules: &[u32], count: usize) -> bool
     requires { (rule_words slots * count ≤ length rules.now) × (count ≤ most) × Counted slots count rules.now }
     ensures { (S : ℕ) (t : List ℕ) → result ≡ fields_ok (book_of slots S count t rules.now) }
 {
-    for i in 0..count {
-        if !agrees_so_far(rules, i) {
-            return false;
-        }
-    }
-    true
+    (0..count).all(|i| agrees_so_far(rules, i))
 }

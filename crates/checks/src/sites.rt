@@ -7,92 +7,64 @@ ghost use Rattle.definition.specs.Accept.{twins, smaller_than};
 ghost use Rattle.definition.specs.Bytes.{sites_pass};
 ghost use Rattle.checks.specs.Words.{shape_words, twinless, site_fine};
 
+use crate::words::SLOTS;
+use tables::{
+    KIND_WORD, NUMBER_WORD, PATTERN_WORD, POSITION_WORD, SITE_WORDS, SOURCE_COUNT_WORD,
+    SOURCES_WORD,
+};
+
+#[tactic(auto, using(crate::proofs::Shape::shapes))]
 fn shape_ok(kind: u32, count: u32, pattern: u32, position: u32, number: u32) -> bool
     ensures { result ≡ shape_words kind count pattern position number }
 {
-    if kind > 7 {
-        return false;
+    match kind {
+        0..=2 => count == 0,
+        3 => count == 1,
+        4..=6 => count <= 4,
+        7 => count == 1 && (pattern == 2 || pattern == 3 && position == 0 && number == 0),
+        _ => false,
     }
-    if kind < 3 {
-        return count == 0;
-    }
-    if kind == 3 {
-        return count == 1;
-    }
-    if kind < 7 {
-        return count <= 4;
-    }
-    if count != 1 {
-        return false;
-    }
-    if pattern == 2 {
-        return true;
-    }
-    if pattern != 3 {
-        return false;
-    }
-    if position != 0 {
-        return false;
-    }
-    number == 0
 }
 
-// Each of so many sources of site `s` has a smaller id.
-fn sources_smaller(sites: &[u32], s: usize, count: usize) -> bool
-    requires { (site_words * s + site_words ≤ length sites.now) × (count ≤ 4) }
-    ensures { result ≡ all (smaller_than s) (map (source_at sites.now s) (upto count)) }
+// Each of so many sources of a site has an id smaller than `s`.
+fn sources_smaller(site: &[u32; SITE_WORDS], s: usize, count: usize) -> bool
+    requires { count ≤ 4 }
+    ensures { result ≡ all (smaller_than s) (map (source_at site.now 0) (upto count)) }
 {
-    for k in 0..count {
-        if tables::wide(tables::site_word(sites, s, 2 + k)) >= s {
-            return false;
-        }
-    }
-    true
+    (0..count).all(|k| (site[SOURCES_WORD + k] as usize) < s)
 }
 
 // The first source, 0 if there is none.
-fn first_source(sites: &[u32], s: usize) -> u32
-    requires { site_words * s + site_words ≤ length sites.now }
-    ensures { result ≡ get_or (site_at sites.now s).sources 0 0 }
+#[tactic(auto, using(tables::proofs::Fields::first_source))]
+fn first_source(site: &[u32; SITE_WORDS]) -> u32
+    ensures { result ≡ get_or (site_at site.now 0).sources 0 0 }
 {
-    if tables::site_word(sites, s, 1) == 0 {
+    if site[SOURCE_COUNT_WORD] == 0 {
         return 0;
     }
-    tables::site_word(sites, s, 2)
+    site[SOURCES_WORD]
 }
 
-fn twins(sites: &[u32], r: usize, s: usize) -> bool
-    requires { (site_words * s + site_words ≤ length sites.now) × (r < s) }
-    ensures { result ≡ twins (site_at sites.now r) (site_at sites.now s) }
+#[tactic(auto, using(crate::proofs::SiteTests::twins_is), unfolding(definition::specs::Lists::every))]
+fn twins(site: &[u32; SITE_WORDS], other: &[u32; SITE_WORDS]) -> bool
+    ensures { result ≡ twins (site_at site.now 0) (site_at other.now 0) }
 {
-    if tables::site_word(sites, r, 0) != 7 {
-        return false;
-    }
-    if tables::site_word(sites, s, 0) != 7 {
-        return false;
-    }
-    if first_source(sites, r) != first_source(sites, s) {
-        return false;
-    }
-    if tables::site_word(sites, r, 3) != tables::site_word(sites, s, 3) {
-        return false;
-    }
-    if tables::site_word(sites, r, 5) != tables::site_word(sites, s, 5) {
-        return false;
-    }
-    tables::site_word(sites, r, 4) == tables::site_word(sites, s, 4)
+    // Read before the chain, so that the range of both words is known to the whole of its proof.
+    let same_number = site[NUMBER_WORD] == other[NUMBER_WORD];
+    site[KIND_WORD] == 7
+        && other[KIND_WORD] == 7
+        && first_source(site) == first_source(other)
+        && site[PATTERN_WORD] == other[PATTERN_WORD]
+        && same_number
+        && site[POSITION_WORD] == other[POSITION_WORD]
 }
 
-fn no_twin_before(sites: &[u32], s: usize) -> bool
-    requires { site_words * s + site_words ≤ length sites.now }
-    ensures { result ≡ all (twinless sites.now s) (upto s) }
+// None of the sites before the one of id `s` is its twin.
+fn no_twin_before(sites: &[u32], site: &[u32; SITE_WORDS], s: usize) -> bool
+    requires { site_words * s ≤ length sites.now }
+    ensures { result ≡ all (twinless sites.now (site_at site.now 0)) (upto s) }
 {
-    for r in 0..s {
-        if twins(sites, r, s) {
-            return false;
-        }
-    }
-    true
+    (0..s).all(|r| !twins(tables::site_record(sites, r), site))
 }
 
 // Internal: `n` words from `at` on are zero.
@@ -100,47 +72,40 @@ pub fn zero_words(words: &[u32], at: usize, n: usize) -> bool
     requires { at + n ≤ length words.now }
     ensures { result ≡ zero_from words.now at n }
 {
-    for k in 0..n {
-        if words[at + k] != 0 {
-            return false;
-        }
-    }
-    true
+    words[at..at + n].iter().all(|w| *w == 0)
 }
 
 // The sources behind the count are zero.
-fn tidy(sites: &[u32], s: usize) -> bool
-    requires { (site_words * s + site_words ≤ length sites.now) × (site_word sites.now s 1 ≤ 4) }
-    ensures { result ≡ site_tidy sites.now s }
+#[tactic(auto, unfolding(definition::specs::Tables::site_tidy))]
+fn tidy(site: &[u32; SITE_WORDS]) -> bool
+    requires { site_word site.now 0 1 ≤ 4 }
+    ensures { result ≡ site_tidy site.now 0 }
 {
-    if tables::site_word(sites, s, 0) == 7 {
+    if site[KIND_WORD] == 7 {
         return true;
     }
-    let count = tables::wide(tables::site_word(sites, s, 1));
-    zero_words(sites, tables::SITE_WORDS * s + (2 + count), 4 - count)
+    let count = site[SOURCE_COUNT_WORD] as usize;
+    zero_words(site, SOURCES_WORD + count, SLOTS - count)
 }
 
-fn site_ok(sites: &[u32], s: usize) -> bool
-    requires { site_words * s + site_words ≤ length sites.now }
-    ensures { result ≡ site_fine sites.now s }
+// A site, which is that of id `s`, keeps the rules of its record.
+#[tactic(auto, using(crate::proofs::SiteTests::fine_words, crate::proofs::Shape::shape_count), unfolding(definition::specs::Lists::every))]
+fn site_ok(sites: &[u32], site: &[u32; SITE_WORDS], s: usize) -> bool
+    requires { site_words * s ≤ length sites.now }
+    ensures { result ≡ site_fine sites.now site.now 0 s }
 {
-    let count = tables::site_word(sites, s, 1);
-    if !shape_ok(
-        tables::site_word(sites, s, 0),
+    let count = site[SOURCE_COUNT_WORD];
+    let shaped = shape_ok(
+        site[KIND_WORD],
         count,
-        tables::site_word(sites, s, 3),
-        tables::site_word(sites, s, 4),
-        tables::site_word(sites, s, 5),
-    ) {
-        return false;
-    }
-    if !sources_smaller(sites, s, tables::wide(count)) {
-        return false;
-    }
-    if !no_twin_before(sites, s) {
-        return false;
-    }
-    tidy(sites, s)
+        site[PATTERN_WORD],
+        site[POSITION_WORD],
+        site[NUMBER_WORD],
+    );
+    shaped
+        && sources_smaller(site, s, count as usize)
+        && no_twin_before(sites, site, s)
+        && tidy(site)
 }
 
 // Internal: refusal 4 is not given to a table of `count` sites.
@@ -148,10 +113,5 @@ pub fn sites_pass(sites: &[u32], count: usize) -> bool
     requires { (site_words * count ≤ length sites.now) × (count ≤ most) }
     ensures { (n R : ℕ) (u : List ℕ) → result ≡ sites_pass n count R sites.now u }
 {
-    for s in 0..count {
-        if !site_ok(sites, s) {
-            return false;
-        }
-    }
-    true
+    (0..count).all(|s| site_ok(sites, tables::site_record(sites, s), s))
 }

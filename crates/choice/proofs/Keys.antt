@@ -22,6 +22,7 @@ use Rattle.laws.specs.Orders.{lt_is, eq_is}
 use Rattle.laws.specs.Tests.{split}
 use Rattle.laws.specs.Winners.{gt_is, champion_is}
 use Rattle.theorems.specs.Choices.{Known, tests_known, candidate_parts, is_listed}
+use Rattle.tables.specs.Held.{test_of}
 use Rattle.choice.specs.Worth.{last_code, code_room, code, key_of, worth, of_code, decoded, shown_best}
 
 -- CODES
@@ -79,7 +80,7 @@ module _ (b : Book) (σ : Scope) (w : List ℕ) (t u : Test) where
       (inr (rw (eq_is (count b w u) (count b w t) e, eq_is (state_of σ u) (state_of σ t) f, q.0)), rw (eq_is (count b w t) (count b w u) (sym e), eq_is (state_of σ t) (state_of σ u) (sym f), q.1))
 
 -- DECODING
-from_code : (n : ℕ) (t : Test) → n ≤ most → Known n t → shown_best (of_code (code t)) ≡ some t
+from_code : (n : ℕ) (t : Test) → n ≤ most → Known n t → test_of (of_code (code t)) ≡ t
 unfolding of_code code
 from_code n (on s) h k = rw (lt-ltb s 256 (omega arith))
 from_code n (same x y) h k =
@@ -94,7 +95,7 @@ decode_key n m s t h o p =
     let k = (m * 4 + s) * code_room + (last_code - code t) in
     let e : k % code_room ≡ last_code - code t = omega arith in
     let f : last_code - (last_code - code t) ≡ code t = omega arith in
-    rw (e, ne_eqb k 0 (λ z. omega arith), le-ltb last_code (last_code - code t) (omega arith), f) (from_code n t h o)
+    rw (e, ne_eqb k 0 (λ z. omega arith), le-ltb last_code (last_code - code t) (omega arith), f) (ap some (from_code n t h o))
 
 none_decoded : shown_best (decoded 0) ≡ none
 unfolding decoded

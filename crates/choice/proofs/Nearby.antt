@@ -6,10 +6,11 @@ use mathlib.Core.List.{List, [], ◌∷◌, ◌++◌, map, Memᴰ, append-nil}
 use Prim.Native.Nat.{ℕ, ◌+◌, ◌-◌, ◌*◌, ◌≤◌, ◌<◌, max}
 use native.Mathlib.Omega.{arith}
 use native.Mathlib.Numerals.{add-one}
-use lib.Dec.{eqb, ltb}
+use mir.Val.{bool_byte}
+use lib.Dec.{ltb}
 use lib.ListN.{length, get_or, set, take, drop, length-set}
-use lib.Seq.{append_snoc, take-suc, take-set-le, get_or-set_same, get_or-set_other}
-use borrow.Author.Tests.{eqb-true, eqb-false, eq-eqb, le-leb, lt-leb, ltb-true}
+use lib.Seq.{append_snoc, take-suc, take-set-le, get_or-set_same}
+use borrow.Author.Tests.{le-leb, lt-leb, ltb-true}
 use Rattle.definition.specs.Book.{slots, linked}
 use Rattle.definition.specs.Choice.{Test, has, same}
 use Rattle.definition.specs.Lists.{upto, from, filter, each}
@@ -22,8 +23,7 @@ use Rattle.laws.specs.Tests.{split, clash, both}
 use Rattle.tables.specs.Held.{Held, rank_of, end_slot}
 use Rattle.tables.proofs.Ends.{linked_flip, linked_end, end_stands}
 use Rattle.order.specs.Parts.{Parts, raised, raise, rule_tests, lack_top, passes_top}
-use Rattle.choice.specs.Worth.{count_of, count_from, worth_of, worth_from, pair_worth, end_worth, pairs_worth, Marks, is_marked, marked_ends, is_near, Nears}
-use Rattle.choice.specs.declared.Near.{Near}
+use Rattle.choice.specs.Worth.{count_from, worth_from, pair_worth, end_worth, pairs_worth, Marks, is_marked, marked_ends, is_near}
 
 -- A TEST THAT ONLY NEAR RULES HAVE
 module _ (t : ℕ → Bool) (rank : ℕ → ℕ) where
@@ -53,21 +53,24 @@ module _ (t p : ℕ → Bool) (rank : ℕ → ℕ) (h : (j : ℕ) → t j ≡ tr
           rw f (omega (arith, rec, z, each_max t rank js (raised (t j) (rank j) 0), each_max p rank js (max 0 (rank j + 1))))
 
 -- the count over the near rules is the count over the part
-count_narrow : (rules : List ℕ) (t : Test) (p : ℕ → Bool) → ((j : ℕ) → rule_tests rules t j ≡ true → p j ≡ true) → (part : List ℕ) → count_from rules t (filter p part) (lack_top p (rank_of rules) part) ≡ count_of rules t part
-unfolding count_from count_of passes_top
-count_narrow rules t p h part =
-    let T = lack_top (rule_tests rules t) (rank_of rules) part in
-    ap (λ z. length (filter (passes_top rules t z) (filter p part))) (sym (lack_narrow (rule_tests rules t) p (rank_of rules) h part))
+count_narrow : (rules : List ℕ) (t : Test) (p : ℕ → Bool) → ((j : ℕ) → rule_tests rules t j ≡ true → p j ≡ true) → (part : List ℕ) (bar : ℕ)
+    → count_from rules t (filter p part) (max bar (lack_top p (rank_of rules) part)) ≡ count_from rules t part bar
+unfolding count_from passes_top
+count_narrow rules t p h part bar =
+    let T = max bar (lack_top (rule_tests rules t) (rank_of rules) part) in
+    let e : max (max bar (lack_top p (rank_of rules) part)) (lack_top (rule_tests rules t) (rank_of rules) (filter p part)) ≡ T =
+    omega (arith, lack_narrow (rule_tests rules t) p (rank_of rules) h part) in
+    ap (λ z. length (filter (passes_top rules t z) (filter p part))) e
     ∙ ap length (filter_narrow p (passes_top rules t T) (λ j e. h j (both (rule_tests rules t j) _ e).0) part)
 
 -- RULES WITH A PAIR of rule i are near
-module _ {rules : List ℕ} {i : ℕ} {marks : List ℕ} (v : Marks rules i marks) where
+module _ {rules : List ℕ} {i : ℕ} {marks : List Bool} (v : Marks rules i marks) where
   end_marked : (x : ℕ) → Memᴰ x (map (end_slot rules i) (upto (2 * rule_word slots rules i 4))) → is_marked marks x ≡ true
   unfolding is_marked
   end_marked x m =
       let q = mem_map_of (end_slot rules i) x (upto (2 * rule_word slots rules i 4)) m in
       let b = from_bounds 0 (2 * rule_word slots rules i 4) q.0 q.1 in
-      eq-eqb (get_or marks x 0) 1 (ap (λ z. get_or marks z 0) q.2 ∙ v.each q.0 (omega arith))
+      ap (λ z. get_or marks z false) q.2 ∙ v.each q.0 (omega arith)
 
   module _ (x y : ℕ) (h : x < y) (e : linked (rule_at slots rules i).pairs x y ≡ true) where
     first_at : (j : ℕ) → linked (rule_at slots rules j).pairs x y ≡ true → Memᴰ x (map (end_slot rules j) (upto (2 * rule_word slots rules j 4)))
@@ -82,29 +85,25 @@ module _ {rules : List ℕ} {i : ℕ} {marks : List ℕ} (v : Marks rules i mark
         (two_members (filter (is_marked marks) (map (end_slot rules j) (upto (2 * rule_word slots rules j 4)))) x y
         (filter_from (is_marked marks) (first_at j f) (end_marked x (first_at i e))) (filter_from (is_marked marks) (second_at j f) (end_marked y (second_at i e))) (λ z. omega arith))
 
-  module _ (st root part : List ℕ) {l : List ℕ} {bar : ℕ} (el : l ≡ filter (is_near rules marks) part) (eb : bar ≡ lack_top (is_near rules marks) (rank_of rules) part) where
-    pair_same : (x y : ℕ) → pair_worth (worth_from rules st root l bar) (rule_at slots rules i) x y ≡ pair_worth (worth_of rules st root part) (rule_at slots rules i) x y
-    unfolding pair_worth worth_from worth_of
+  module _ (st root part : List ℕ) (bar : ℕ) {l : List ℕ} {raised_bar : ℕ} (el : l ≡ filter (is_near rules marks) part) (eb : raised_bar ≡ max bar (lack_top (is_near rules marks) (rank_of rules) part)) where
+    pair_same : (x y : ℕ) → pair_worth (worth_from rules st root l raised_bar) (rule_at slots rules i) x y ≡ pair_worth (worth_from rules st root part bar) (rule_at slots rules i) x y
+    unfolding pair_worth worth_from
     pair_same x y = go (split (ltb x y)) (split (linked (rule_at slots rules i).pairs x y))
       where
-        go : (ltb x y ≡ true) ⊎ (ltb x y ≡ false) → (linked (rule_at slots rules i).pairs x y ≡ true) ⊎ (linked (rule_at slots rules i).pairs x y ≡ false) → pair_worth (worth_from rules st root l bar) (rule_at slots rules i) x y ≡ pair_worth (worth_of rules st root part) (rule_at slots rules i) x y
-        go (inl e) (inl f) = rw (e, f, el, eb, count_narrow rules (same x y) (is_near rules marks) (has_near x y (ltb-true x y e) f) part)
+        go : (ltb x y ≡ true) ⊎ (ltb x y ≡ false) → (linked (rule_at slots rules i).pairs x y ≡ true) ⊎ (linked (rule_at slots rules i).pairs x y ≡ false) → pair_worth (worth_from rules st root l raised_bar) (rule_at slots rules i) x y ≡ pair_worth (worth_from rules st root part bar) (rule_at slots rules i) x y
+        go (inl e) (inl f) = rw (e, f, el, eb, count_narrow rules (same x y) (is_near rules marks) (has_near x y (ltb-true x y e) f) part bar)
         go (inl e) (inr f) = rw (e, f)
         go (inr e) f = rw e
 
-    pub near_worth : pairs_worth (worth_from rules st root l bar) rules i ≡ pairs_worth (worth_of rules st root part) rules i
+    pub near_worth : pairs_worth (worth_from rules st root l raised_bar) rules i ≡ pairs_worth (worth_from rules st root part bar) rules i
     unfolding pairs_worth end_worth
     near_worth =
         let xs = map (end_slot rules i) (upto (2 * rule_word slots rules i 4)) in
-        greatest_same (end_worth (worth_from rules st root l bar) rules i) (end_worth (worth_of rules st root part) rules i) xs (λ x m. greatest_same (pair_worth (worth_from rules st root l bar) (rule_at slots rules i) x) (pair_worth (worth_of rules st root part) (rule_at slots rules i) x) xs (λ y k. pair_same x y))
+        greatest_same (end_worth (worth_from rules st root l raised_bar) rules i) (end_worth (worth_from rules st root part bar) rules i) xs (λ x m. greatest_same (pair_worth (worth_from rules st root l raised_bar) (rule_at slots rules i) x) (pair_worth (worth_from rules st root part bar) (rule_at slots rules i) x) xs (λ y k. pair_same x y))
 
-pub no_pairs : (w : Test → ℕ) (rules : List ℕ) (i best : ℕ) {n : ℕ} → n ≡ rule_word slots rules i 4 → n ≡ 0 → best ≡ max best (pairs_worth w rules i)
+pub no_pairs : (w : Test → ℕ) (rules : List ℕ) (i best : ℕ) {n : ℕ} → n ≡ 2 * rule_word slots rules i 4 → n ≡ 0 → best ≡ max best (pairs_worth w rules i)
 unfolding pairs_worth
-no_pairs w rules i best e z = let y : rule_word slots rules i 4 ≡ 0 = sym e ∙ z in rw y (omega arith)
-
--- the near rules as the code lends them
-pub near_front : {rules marks part : List ℕ} {r : Near} → Nears rules marks part r → take (r.count - 0) r.ids ≡ filter (is_near rules marks) part
-near_front {r = r} n = (let z : r.count - 0 ≡ r.count = omega arith in ap (λ k. take k r.ids) z) ∙ n.front
+no_pairs w rules i best e z = let y : 2 * rule_word slots rules i 4 ≡ 0 = sym e ∙ z in rw y (omega arith)
 
 pub near_parts : {rules part l : List ℕ} (p : ℕ → Bool) → Parts rules part → l ≡ filter p part → Parts rules l
 near_parts {rules} {part} {l} p h e = record {
@@ -116,51 +115,43 @@ near_parts {rules} {part} {l} p h e = record {
 }
 
 -- THE LOOPS. Marks on the first k ends
-pub record Marking (rules : List ℕ) (i k : ℕ) (marks : List ℕ) : Type 0 where
+pub record Marking (rules : List ℕ) (i k : ℕ) (marks : List Bool) : Type 0 where
   pub long : length marks ≡ 252
-  pub so_far : (j : ℕ) → j < k → get_or marks (end_slot rules i j) 0 ≡ 1
+  pub so_far : (j : ℕ) → j < k → get_or marks (end_slot rules i j) false ≡ true
 
-pub mark_turn : {rules : List ℕ} {i k : ℕ} {marks : List ℕ} → Marking rules i k marks → {e : ℕ} → e ≡ end_slot rules i k → e < 252 → Marking rules i (k + 1) (set marks e 1)
-mark_turn {rules} {i} {k} {marks} v {e} f h = record { long = length-set marks e 1 ∙ v.long; so_far = λ j q. go j q (split (eqb (end_slot rules i j) e)) }
-  where
-    go : (j : ℕ) → j < k + 1 → (eqb (end_slot rules i j) e ≡ true) ⊎ (eqb (end_slot rules i j) e ≡ false) → get_or (set marks e 1) (end_slot rules i j) 0 ≡ 1
-    go j q (inl t) = let s = eqb-true (end_slot rules i j) e t in rw s (get_or-set_same marks e 1 0 (omega (arith, v.long)))
-    go j q (inr t) =
-        let s = eqb-false (end_slot rules i j) e t in
-        let d : j ≡ k → ⊥ = λ z. s (ap (end_slot rules i) z ∙ sym f) in
-        get_or-set_other marks e (end_slot rules i j) 1 0 s ∙ v.so_far j (omega (arith, d))
+-- a test as a number
+pub byte_one : (b : Bool) → bool_byte b ≡ one b
+byte_one true = refl
+byte_one false = refl
 
 -- m of the first k ends are marked
-pub record MarkTold (marks : List ℕ) (g : ℕ → ℕ) (n k m : ℕ) : Type 0 where
+pub record MarkTold (marks : List Bool) (g : ℕ → ℕ) (n k m : ℕ) : Type 0 where
   pub few : m ≤ k
   pub is : m + length (filter (is_marked marks) (map g (from k (n - k)))) ≡ length (filter (is_marked marks) (map g (from 0 (n - 0))))
 
-pub told_starts : (marks : List ℕ) (g : ℕ → ℕ) (n : ℕ) → MarkTold marks g n 0 0
-told_starts marks g n = record { few = omega arith; is = omega arith }
-
-module _ {marks : List ℕ} {g : ℕ → ℕ} {n k m : ℕ} (v : MarkTold marks g n k m) where
-  pub told_turn : k < n → {e : ℕ} {u : Bool} {r : ℕ} → e ≡ g k → u ≡ eqb (get_or marks e 0) 1 → r ≡ m + one u → MarkTold marks g n (k + 1) r
+module _ {marks : List Bool} {g : ℕ → ℕ} {n k m : ℕ} (v : MarkTold marks g n k m) where
+  pub told_turn : k < n → {e : ℕ} {u : Bool} {r : ℕ} → e ≡ g k → u ≡ get_or marks e false → r ≡ m + one u → MarkTold marks g n (k + 1) r
   unfolding is_marked
   told_turn h {e} {u} f t q =
-      let y : one u ≡ one (is_marked marks (g k)) = ap one (t ∙ ap (λ z. eqb (get_or marks z 0) 1) f) in
+      let y : one u ≡ one (is_marked marks (g k)) = ap one (t ∙ ap (λ z. get_or marks z false) f) in
       let z : length (filter (is_marked marks) (map g (from k (n - k)))) ≡ one (is_marked marks (g k)) + length (filter (is_marked marks) (map g (from (k + 1) (n - (k + 1))))) = rw ((in_slots g n).more k h) (one_kept (is_marked marks (g k)) (g k) (filter (is_marked marks) (map g (from (k + 1) (n - (k + 1)))))) in
       record { few = omega (arith, v.few, one_le u); is = omega (arith, v.is, z) }
 
-pub told_ends : (rules marks : List ℕ) (j : ℕ) {n k m w : ℕ} → MarkTold marks (end_slot rules j) n k m → n ≤ k → w ≡ rule_word slots rules j 4 → n ≡ 2 * w → m ≡ marked_ends rules marks j
+pub told_ends : (rules : List ℕ) (marks : List Bool) (j : ℕ) {n k m : ℕ} → MarkTold marks (end_slot rules j) n k m → n ≤ k → n ≡ 2 * rule_word slots rules j 4 → m ≡ marked_ends rules marks j
 unfolding marked_ends
-told_ends rules marks j {n} {k} {m} v h e f =
+told_ends rules marks j {n} {k} {m} v h e =
     let a : filter (is_marked marks) (map (end_slot rules j) (from k (n - k))) ≡ [] = rw ((in_slots (end_slot rules j) n).none k h) in
     let b : n - 0 ≡ 2 * rule_word slots rules j 4 = omega arith in
     let c : m ≡ length (filter (is_marked marks) (map (end_slot rules j) (from 0 (n - 0)))) = omega (arith, v.is, ap length a) in
     c ∙ ap (λ z. length (filter (is_marked marks) (map (end_slot rules j) (from 0 z)))) b
 
-pub near_yes : (rules marks : List ℕ) {m i x : ℕ} → m ≡ marked_ends rules marks i → i ≡ x → 2 ≤ m → is_near rules marks x ≡ true
+pub near_yes : (rules : List ℕ) (marks : List Bool) {m : ℕ} (x : ℕ) → m ≡ marked_ends rules marks x → 2 ≤ m → is_near rules marks x ≡ true
 unfolding is_near
-near_yes rules marks {m} {i} {x} e f h = le-leb 2 (marked_ends rules marks x) (let z = ap (marked_ends rules marks) f in omega arith)
+near_yes rules marks x e h = le-leb 2 (marked_ends rules marks x) (omega arith)
 
-pub near_no : (rules marks : List ℕ) {m i x : ℕ} → m ≡ marked_ends rules marks i → i ≡ x → m < 2 → is_near rules marks x ≡ false
+pub near_no : (rules : List ℕ) (marks : List Bool) {m : ℕ} (x : ℕ) → m ≡ marked_ends rules marks x → m < 2 → is_near rules marks x ≡ false
 unfolding is_near
-near_no rules marks {m} {i} {x} e f h = lt-leb 2 (marked_ends rules marks x) (let z = ap (marked_ends rules marks) f in omega arith)
+near_no rules marks x e h = lt-leb 2 (marked_ends rules marks x) (omega arith)
 
 -- the near ones of the first k rules stand in front
 pub record Sharing (p : ℕ → Bool) (part : List ℕ) (k n : ℕ) (ids : List ℕ) : Type 0 where

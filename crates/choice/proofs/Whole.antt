@@ -25,7 +25,8 @@ use Rattle.tables.specs.Held.{Words, rank_of, site_slot, end_slot, Named}
 use Rattle.order.specs.Parts.{Names, rule_tests, lack_top, passes_top}
 use Rattle.order.proofs.Cuts.{counted_side}
 use Rattle.choice.specs.Worth.{open_at, state_at, count_of, worth, worth_of, decoded, shown_best, match_worth, pair_worth, constraints_worth, end_worth, pairs_worth, rank_above, top_of, rule_worth, part_worth, Joined, Stands, Chosen}
-use Rattle.choice.specs.declared.Best.{Best}
+use Rattle.std.specs.declared.option.Option as option_code
+use Rattle.tables.specs.declared.Test as code_test
 use Rattle.choice.proofs.Keys.{book_worth, choice_worth}
 use Rattle.choice.proofs.Tops.{top_has, tried}
 
@@ -110,7 +111,7 @@ state_low st h (on s) = h s
 state_low st h (same x y) = let z = h x in omega arith
 
 -- WHAT THE CODE FINDS
-pub found : (rules states root part : List ℕ) → Words rules → (r : Best) → r ≡ decoded (part_worth (worth_of rules states root part) rules part) → Chosen rules states root part r
+pub found : (rules states root part : List ℕ) → Words rules → (r : option_code.Option code_test.Test) → r ≡ decoded (part_worth (worth_of rules states root part) rules part) → Chosen rules states root part r
 unfolding worth_of book_worth
 found rules states root part W r e = record { answer = λ S R sites joined p. go S R sites joined p }
   where

@@ -1,6 +1,9 @@
--- What a test is worth: one number that orders tests as document 01 does, greatest count, then greater state, then Match before Equal, then smaller ids.
+-- What a test is worth: one number that orders tests as document 01 does, greatest count, then greater state, then Match
+-- before Equal, then smaller ids.
 -- A test that is not open or counts no rule is worth 0.
-use Rattle.std.specs.Prelude.{◌≡◌, Bool, ◌&&◌, ◌||◌, not, List, map, ℕ, ◌+◌, ◌-◌, ◌*◌, ◌/◌, ◌%◌, ◌≤◌, ◌<◌, max, min, length, get_or, take, if◌then◌else◌}
+use Rattle.std.specs.Prelude.{◌≡◌, Bool, true, false, ◌&&◌, ◌||◌, not, List, map, ℕ, ◌+◌, ◌-◌, ◌*◌, ◌/◌, ◌%◌, ◌≤◌, ◌<◌, max, min, length, get_or, take, if◌then◌else◌}
+use Rattle.std.specs.Prelude.{None, Some}
+use Rattle.std.specs.declared.option.Option as option_code
 use Rattle.std.proofs.Math.Option.{Option, none, some}
 use Rattle.definition.specs.Book.{most, slots, Pair, Rule, linked}
 use Rattle.definition.specs.Choice.{Test, testable, choice, on, same}
@@ -10,9 +13,11 @@ use Rattle.definition.specs.Tables.{rule_word, rule_at, book_of}
 use Rattle.laws.specs.Ascending.{asc, Within, Distinct}
 use Rattle.laws.specs.Greatest.{greatest}
 use Rattle.sets.specs.View.{same_root}
-use Rattle.tables.specs.Held.{rank_of, site_slot, end_slot}
+use Rattle.tables.specs.Held.{rank_of, test_of, site_slot, end_slot}
 use Rattle.order.specs.Parts.{Names, rule_tests, lack_top, passes_top}
-use Rattle.choice.specs.declared.Best.{Best}
+use Rattle.tables.specs.declared.Test as code_test
+use Rattle.tables.specs.declared.Test.TheVariants.{On, Same}
+use Rattle.choice.specs.declared.asked.Asked.{Asked}
 use Rattle.choice.specs.declared.Near.{Near}
 use Rattle.choice.specs.declared.tests.Told.{Told}
 
@@ -30,15 +35,17 @@ count_of rules t part = length (filter (passes_top rules t (lack_top (rule_tests
 
 -- the same of a part beside which other rules raise the bar
 unfoldable pub count_from : List ℕ → Test → List ℕ → ℕ → ℕ
-count_from rules t part bar = length (filter (passes_top rules t (max bar (lack_top (rule_tests rules t) (rank_of rules) part))) part)
+count_from rules t part bar = length
+    (filter (passes_top rules t (max bar (lack_top (rule_tests rules t) (rank_of rules) part))) part)
 
--- 1 where the rule at k of the part has the test
-unfoldable pub had_at : List ℕ → Test → List ℕ → ℕ → ℕ
-had_at rules t part k = if rule_tests rules t (get_or part k 0) then 1 else 0
+-- the ids of a test's sites are below n
+abbrev pub SitesBelow : ℕ → Test → Type 0
+SitesBelow n (on s) = s < n
+SitesBelow n (same x y) = (x < n) × (y < n)
 
 -- which rules of the part have the test, and how high the others are
 pub record Tells (rules : List ℕ) (t : Test) (part : List ℕ) (r : Told) : Type 0 where
-  pub marks : (k : ℕ) → k < length part → get_or r.had k 0 ≡ had_at rules t part k
+  pub marks : (k : ℕ) → k < length part → get_or r.had k false ≡ rule_tests rules t (get_or part k 0)
   pub raises : r.top ≡ lack_top (rule_tests rules t) (rank_of rules) part
 
 -- tests in the order of the last tie; no code is above the last
@@ -68,17 +75,21 @@ worth_of rules st root part t = worth (open_at st root t) (count_of rules t part
 unfoldable pub worth_from : List ℕ → List ℕ → List ℕ → List ℕ → ℕ → Test → ℕ
 worth_from rules st root part bar t = worth (open_at st root t) (count_from rules t part bar) (state_at st t) t
 
+-- what a test is worth in what is asked
+abbrev pub worth_in : Asked → Test → ℕ
+worth_in a t = worth_from a.rules.now a.states.now a.root.now a.part.now a.bar t
+
 -- the test of a worth
-unfoldable pub of_code : ℕ → Best
-of_code c = if c below 256 then Best.Match c else Best.Equal ((c - 256) / 256) ((c - 256) % 256)
+unfoldable pub of_code : ℕ → code_test.Test
+of_code c = if c below 256 then On c else Same ((c - 256) / 256) ((c - 256) % 256)
 
-unfoldable pub decoded : ℕ → Best
-decoded k = if k is 0 || last_code below (k % code_room) then Best.None else of_code (last_code - k % code_room)
+unfoldable pub decoded : ℕ → option_code.Option code_test.Test
+decoded k = if k is 0 || last_code below (k % code_room) then None else Some (of_code (last_code - k % code_room))
 
-abbrev pub shown_best : Best → Option Test
-shown_best (Best.Match s) = some (on s)
-shown_best (Best.Equal x y) = some (same x y)
-shown_best Best.None = none
+-- an answer of the code, as the definition's
+abbrev pub shown_best : option_code.Option code_test.Test → Option Test
+shown_best None = none
+shown_best (Some t) = some (test_of t)
 
 -- THE SEARCH: the greatest worth of the tests of the rules of highest priority
 unfoldable pub match_worth : (Test → ℕ) → ℕ → ℕ
@@ -91,7 +102,8 @@ unfoldable pub constraints_worth : (Test → ℕ) → List ℕ → ℕ → ℕ
 constraints_worth w rules i = greatest (match_worth w) (map (site_slot rules i) (upto (rule_word slots rules i 3)))
 
 unfoldable pub end_worth : (Test → ℕ) → List ℕ → ℕ → ℕ → ℕ
-end_worth w rules i x = greatest (pair_worth w (rule_at slots rules i) x) (map (end_slot rules i) (upto (2 * rule_word slots rules i 4)))
+end_worth w rules i x = greatest (pair_worth w (rule_at slots rules i) x)
+    (map (end_slot rules i) (upto (2 * rule_word slots rules i 4)))
 
 unfoldable pub pairs_worth : (Test → ℕ) → List ℕ → ℕ → ℕ
 pairs_worth w rules i = greatest (end_worth w rules i) (map (end_slot rules i) (upto (2 * rule_word slots rules i 4)))
@@ -108,22 +120,22 @@ rule_worth w rules top i = if rank_above rules i is top then max (constraints_wo
 unfoldable pub part_worth : (Test → ℕ) → List ℕ → List ℕ → ℕ
 part_worth w rules part = greatest (rule_worth w rules (top_of rules part)) part
 
--- NEAR RULES: those that may have a pair of rule i, whose ends have mark 1
-pub record Marks (rules : List ℕ) (i : ℕ) (marks : List ℕ) : Type 0 where
-  pub each : (k : ℕ) → k < 2 * rule_word slots rules i 4 → get_or marks (end_slot rules i k) 0 ≡ 1
+-- NEAR RULES: those that may have a pair of rule i, whose ends are marked
+pub record Marks (rules : List ℕ) (i : ℕ) (marks : List Bool) : Type 0 where
+  pub each : (k : ℕ) → k < 2 * rule_word slots rules i 4 → get_or marks (end_slot rules i k) false ≡ true
 
-unfoldable pub is_marked : List ℕ → ℕ → Bool
-is_marked marks s = get_or marks s 0 is 1
+unfoldable pub is_marked : List Bool → ℕ → Bool
+is_marked marks s = get_or marks s false
 
-unfoldable pub marked_ends : List ℕ → List ℕ → ℕ → ℕ
+unfoldable pub marked_ends : List ℕ → List Bool → ℕ → ℕ
 marked_ends rules marks j = length (filter (is_marked marks) (map (end_slot rules j) (upto (2 * rule_word slots rules j 4))))
 
 -- a rule with a pair of rule i has two marked ends
-unfoldable pub is_near : List ℕ → List ℕ → ℕ → Bool
+unfoldable pub is_near : List ℕ → List Bool → ℕ → Bool
 is_near rules marks j = 2 at_most marked_ends rules marks j
 
 -- the near rules of a part stand in front, and the others raise the bar
-pub record Nears (rules marks part : List ℕ) (r : Near) : Type 0 where
+pub record Nears (rules : List ℕ) (marks : List Bool) (part : List ℕ) (r : Near) : Type 0 where
   pub fits : r.count ≤ length r.ids
   pub front : take r.count r.ids ≡ filter (is_near rules marks) part
   pub raises : r.bar ≡ lack_top (is_near rules marks) (rank_of rules) part
@@ -142,6 +154,6 @@ pub record Stands (S R : ℕ) (rules states root part : List ℕ) (joined : List
   pub classes : Joined root joined
 
 -- THE ANSWER: the definition's choice, whatever the sites' table and the pairs joined
-pub record Chosen (rules states root part : List ℕ) (r : Best) : Type 0 where
+pub record Chosen (rules states root part : List ℕ) (r : option_code.Option code_test.Test) : Type 0 where
   pub answer : (S R : ℕ) (sites : List ℕ) (joined : List Pair) → Stands S R rules states root part joined
       → shown_best r ≡ choice (book_of slots S R sites rules) (record { states = states; joined = joined }) (asc R part)

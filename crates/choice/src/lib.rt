@@ -1,6 +1,7 @@
 // The best test of a part of the order.
 #![tactic(auto)]
 
+pub mod asked;
 pub mod tests;
 
 ghost use Rattle.std.specs.Prelude.{◌≡◌, map, ◌*◌, ◌<◌, max};
@@ -8,295 +9,228 @@ ghost use Rattle.definition.specs.Book.{most, slots};
 ghost use Rattle.definition.specs.Lists.{upto};
 ghost use Rattle.definition.specs.Tables.{rule_word, rule_at};
 ghost use Rattle.laws.specs.Ascending.{stands_in};
-ghost use Rattle.tables.specs.Held.{Held, Named, end_slot};
+ghost use Rattle.tables.specs.Held.{Named, end_slot};
 ghost use Rattle.order.specs.Parts.{Parts, Names};
-ghost use Rattle.choice.specs.Worth.{worth_of, worth_from, Marks, marked_ends, Nears, decoded, constraints_worth, pair_worth, end_worth, pairs_worth, top_of, rule_worth, part_worth, Chosen};
+ghost use Rattle.choice.specs.Worth.{worth_in, Marks, marked_ends, Nears, decoded, constraints_worth, pair_worth, end_worth};
+ghost use Rattle.choice.specs.Worth.{pairs_worth, top_of, rule_worth, part_worth, Chosen};
 
-use order::wide;
-use tests::{CODE_ROOM, LAST_CODE, greater, of_test, one_more};
+use asked::Asked;
+use tables::{Rule, Test};
+use tests::{CODE_ROOM, LAST_CODE, of_test};
+use tree::MOST;
 
-#[derive(Clone, Copy)]
-pub enum Best {
-    Match(u8),
-    Equal(u8, u8),
-    None,
+// Whether site `x` is one of the first `k` ends of the rule's pairs. Such an end was asked before.
+fn stands_before(rule: &Rule, k: usize, x: usize) -> bool
+    requires { k < 2 * rule_word slots rule.now.words.now rule.now.id 4 }
+    ensures { result ≡ stands_in (map (end_slot rule.now.words.now rule.now.id) (upto k)) x }
+{
+    (0..k).any(|j| rule.end_site(j) == x)
 }
 
-// Whether site `x` is one of the first `k` ends of the pairs of rule `i`. Such an end was asked before.
-fn stands_before(rules: &[u32], i: usize, k: usize, x: usize) -> bool
-    requires { Held rules.now i × (k < 2 * rule_word slots rules.now i 4) }
-    ensures { result ≡ stands_in (map (end_slot rules.now i) (upto k)) x }
+// The greatest worth of a constraint of the rule, or `best`.
+fn of_constraints(asked: &Asked, rule: &Rule, best: usize) -> usize
+    requires { Named most rule.now.words.now rule.now.id }
+    ensures { result ≡ max best (constraints_worth (worth_in asked.now) rule.now.words.now rule.now.id) }
 {
-    let mut j: usize = 0;
-    while j < k {
-        if x == tables::rule_id(rules, i, 22 + j) {
-            return true;
-        }
-        j += 1;
-    }
-    false
-}
-
-// The greatest worth of a constraint of rule `i`, or `best`.
-fn of_constraints(
-    rules: &[u32],
-    states: &[u8; 252],
-    root: &[u8; 252],
-    part: &[u8],
-    i: usize,
-    best: usize,
-) -> usize
-    requires { Parts rules.now part.now × (Held rules.now i × Named most rules.now i) }
-    ensures { result ≡ max best (constraints_worth (worth_of rules.now states.now root.now part.now) rules.now i) }
-{
-    let n = tables::rule_id(rules, i, 3);
+    let n = rule.constraint_count();
     let mut most = best;
-    let mut k: usize = 0;
-    while k < n {
-        let s = tables::rule_id(rules, i, 6 + 4 * k);
-        most = of_test(rules, states, root, part, 0, s, 0, most);
-        k += 1;
+    for k in 0..n {
+        let s = rule.constraint_site(k);
+        most = of_test(asked, Test::On(s), most);
     }
     most
 }
 
-// The same of the pair of sites `x` and `y`, if rule `i` has it.
-fn of_two(
-    rules: &[u32],
-    states: &[u8; 252],
-    root: &[u8; 252],
-    part: &[u8],
-    bar: usize,
-    i: usize,
-    x: usize,
-    y: usize,
-    best: usize,
-) -> usize
-    requires { Parts rules.now part.now × (Held rules.now i × ((x < most) × (y < most))) }
-    ensures { result ≡ max best (pair_worth (worth_from rules.now states.now root.now part.now bar) (rule_at slots rules.now i) x y) }
+// The same of the pair of sites `x` and `y`, if the rule has it.
+fn of_two(asked: &Asked, rule: &Rule, x: usize, y: usize, best: usize) -> usize
+    requires { (x < most) × (y < most) }
+    ensures { result ≡ max best (pair_worth (worth_in asked.now) (rule_at slots rule.now.words.now rule.now.id) x y) }
 {
-    if x < y {
-        if tables::rule_links(rules, i, x, y) {
-            return of_test(rules, states, root, part, bar, x, y, best);
-        }
+    if x < y && rule.links(x, y) {
+        return of_test(asked, Test::Same(x, y), best);
     }
     best
 }
 
-// The same of the pairs of `x` and an end of a pair of rule `i`.
-fn of_end(
-    rules: &[u32],
-    states: &[u8; 252],
-    root: &[u8; 252],
-    part: &[u8],
-    bar: usize,
-    i: usize,
-    x: usize,
-    best: usize,
-) -> usize
-    requires { Parts rules.now part.now × (Held rules.now i × (Named most rules.now i × (x < most))) }
-    ensures { result ≡ max best (end_worth (worth_from rules.now states.now root.now part.now bar) rules.now i x) }
+// The same of the pairs of `x` and an end of a pair of the rule.
+fn of_end(asked: &Asked, rule: &Rule, x: usize, best: usize) -> usize
+    requires { Named most rule.now.words.now rule.now.id × (x < most) }
+    ensures { result ≡ max best (end_worth (worth_in asked.now) rule.now.words.now rule.now.id x) }
 {
-    let n = 2 * tables::rule_id(rules, i, 4);
+    let n = rule.end_count();
     let mut most = best;
-    let mut k: usize = 0;
-    while k < n {
-        let y = tables::rule_id(rules, i, 22 + k);
-        if stands_before(rules, i, k, y) {
-            k += 1;
-        } else {
-            most = of_two(rules, states, root, part, bar, i, x, y, most);
-            k += 1;
+    for k in 0..n {
+        let y = rule.end_site(k);
+        if !stands_before(rule, k, y) {
+            most = of_two(asked, rule, x, y, most);
         }
     }
     most
 }
 
-// The same of the pairs of rule `i`.
-fn of_pairs(
-    rules: &[u32],
-    states: &[u8; 252],
-    root: &[u8; 252],
-    part: &[u8],
-    bar: usize,
-    i: usize,
-    best: usize,
-) -> usize
-    requires { Parts rules.now part.now × (Held rules.now i × Named most rules.now i) }
-    ensures { result ≡ max best (pairs_worth (worth_from rules.now states.now root.now part.now bar) rules.now i) }
+// The same of the pairs of the rule.
+fn of_pairs(asked: &Asked, rule: &Rule, best: usize) -> usize
+    requires { Named most rule.now.words.now rule.now.id }
+    ensures { result ≡ max best (pairs_worth (worth_in asked.now) rule.now.words.now rule.now.id) }
 {
-    let n = 2 * tables::rule_id(rules, i, 4);
+    let n = rule.end_count();
     let mut most = best;
-    let mut k: usize = 0;
-    while k < n {
-        let x = tables::rule_id(rules, i, 22 + k);
-        if stands_before(rules, i, k, x) {
-            k += 1;
-        } else {
-            most = of_end(rules, states, root, part, bar, i, x, most);
-            k += 1;
+    for k in 0..n {
+        let x = rule.end_site(k);
+        if !stands_before(rule, k, x) {
+            most = of_end(asked, rule, x, most);
         }
     }
     most
 }
 
 // The rules of a part that may have a pair of a rule, at the front of `ids`. `bar` is one more than the highest
-// priority of the others, or 0.
+// priority of the others, or 0. A list with its count beside it, since there is no heap to make a list of its length.
 #[derive(Clone, Copy)]
 struct Near {
-    ids: [u8; 252],
+    ids: [u8; MOST],
     count: usize,
     bar: usize,
 }
 
-// Marks 1 on the ends of the pairs of rule `i`.
-fn marks_of(rules: &[u32], i: usize) -> [u8; 252]
-    requires { Held rules.now i × Named most rules.now i }
-    ensures { Marks rules.now i result }
+// Marks the ends of the rule's pairs.
+fn marks_of(rule: &Rule) -> [bool; MOST]
+    requires { Named most rule.now.words.now rule.now.id }
+    ensures { Marks rule.now.words.now rule.now.id result }
 {
-    let n = 2 * tables::rule_id(rules, i, 4);
-    let mut marks = [0u8; 252];
-    let mut k: usize = 0;
-    while k < n {
-        marks[tables::rule_id(rules, i, 22 + k)] = 1;
-        k += 1;
+    let n = rule.end_count();
+    let mut marks = [false; MOST];
+    for k in 0..n {
+        marks[rule.end_site(k)] = true;
     }
     marks
 }
 
-// How many ends of the pairs of rule `j` are marked.
-fn marked(rules: &[u32], marks: &[u8; 252], j: usize) -> usize
-    requires { Held rules.now j × Named most rules.now j }
-    ensures { result ≡ marked_ends rules.now marks.now j }
+// How many ends of the rule's pairs are marked.
+fn marked(rule: &Rule, marks: &[bool; MOST]) -> usize
+    requires { Named most rule.now.words.now rule.now.id }
+    ensures { result ≡ marked_ends rule.now.words.now marks.now rule.now.id }
 {
-    let n = 2 * tables::rule_id(rules, j, 4);
+    let n = rule.end_count();
     let mut m: usize = 0;
-    let mut k: usize = 0;
-    while k < n {
-        m = one_more(marks[tables::rule_id(rules, j, 22 + k)] == 1, m);
-        k += 1;
+    for k in 0..n {
+        m += usize::from(marks[rule.end_site(k)]);
     }
     m
 }
 
 // A rule that has a pair of the marked rule has two marked ends. The others are left out, and raise the bar.
-fn sharing(rules: &[u32], marks: &[u8; 252], part: &[u8]) -> Near
-    requires { Parts rules.now part.now × Names most rules.now part.now }
-    ensures { Nears rules.now marks.now part.now result }
+fn sharing(asked: &Asked, marks: &[bool; MOST]) -> Near
+    requires { Names most asked.now.rules.now asked.now.part.now }
+    ensures { Nears asked.now.rules.now marks.now asked.now.part.now result }
 {
-    let mut ids = [0u8; 252];
+    let mut ids = [0u8; MOST];
     let mut n: usize = 0;
     let mut bar: usize = 0;
-    let mut k: usize = 0;
-    while k < part.len() {
-        let x = part[k];
-        if 2 <= marked(rules, marks, wide(x)) {
+    for &x in asked.part {
+        let rule = order::rule_at(asked.rules, x);
+        if 2 <= marked(&rule, marks) {
             ids[n] = x;
             n += 1;
-            k += 1;
         } else {
-            bar = greater(bar, tables::wide(tables::priority(rules, wide(x))) + 1);
-            k += 1;
+            bar = bar.max(rule.priority() as usize + 1);
         }
     }
     Near { ids, count: n, bar }
 }
 
-// The same of the pairs of rule `i`, asked only of the rules that may have one of them.
-fn of_near(
-    rules: &[u32],
-    states: &[u8; 252],
-    root: &[u8; 252],
-    part: &[u8],
-    i: usize,
-    best: usize,
-) -> usize
-    requires { Parts rules.now part.now × (Names most rules.now part.now × (Held rules.now i × Named most rules.now i)) }
-    ensures { result ≡ max best (pairs_worth (worth_of rules.now states.now root.now part.now) rules.now i) }
+// The same of the pairs of the rule, which is of the table that is asked, asked only of the rules that may have one of them.
+fn of_near(asked: &Asked, rule: &Rule, best: usize) -> usize
+    requires { Names most asked.now.rules.now asked.now.part.now
+        × ((rule.now.words.now ≡ asked.now.rules.now) × Named most rule.now.words.now rule.now.id) }
+    ensures { result ≡ max best (pairs_worth (worth_in asked.now) rule.now.words.now rule.now.id) }
 {
-    if tables::rule_id(rules, i, 4) == 0 {
+    if rule.end_count() == 0 {
         return best;
     }
-    let marks = marks_of(rules, i);
-    let near = sharing(rules, &marks, part);
-    let ids = near.ids;
-    let n = near.count;
-    of_pairs(rules, states, root, &ids[0..n], near.bar, i, best)
+    let marks = marks_of(rule);
+    let near = sharing(asked, &marks);
+    of_pairs(
+        &Asked {
+            rules: asked.rules,
+            states: asked.states,
+            root: asked.root,
+            part: &near.ids[..near.count],
+            bar: asked.bar.max(near.bar),
+        },
+        rule,
+        best,
+    )
 }
 
-// The same of the tests of rule `i`, if its priority is the highest.
-fn of_rule(
-    rules: &[u32],
-    states: &[u8; 252],
-    root: &[u8; 252],
-    part: &[u8],
-    top: usize,
-    i: usize,
-    best: usize,
-) -> usize
-    requires { Parts rules.now part.now × (Names most rules.now part.now × (Held rules.now i × Named most rules.now i)) }
-    ensures { result ≡ max best (rule_worth (worth_of rules.now states.now root.now part.now) rules.now top i) }
+// The same of the tests of the rule, which is of the table that is asked, if its priority is the highest.
+fn of_rule(asked: &Asked, top: usize, rule: &Rule, best: usize) -> usize
+    requires { Names most asked.now.rules.now asked.now.part.now
+        × ((rule.now.words.now ≡ asked.now.rules.now) × Named most rule.now.words.now rule.now.id) }
+    ensures { result ≡ max best (rule_worth (worth_in asked.now) rule.now.words.now top rule.now.id) }
 {
-    if tables::wide(tables::priority(rules, i)) + 1 == top {
-        let most = of_constraints(rules, states, root, part, i, best);
-        return of_near(rules, states, root, part, i, most);
+    if rule.priority() as usize + 1 == top {
+        let most = of_constraints(asked, rule, best);
+        return of_near(asked, rule, most);
     }
     best
 }
 
 // One more than the highest priority in the part.
-fn top_of(rules: &[u32], part: &[u8]) -> usize
-    requires { Parts rules.now part.now }
-    ensures { result ≡ top_of rules.now part.now }
+fn top_of(asked: &Asked) -> usize
+    ensures { result ≡ top_of asked.now.rules.now asked.now.part.now }
 {
     let mut most: usize = 0;
-    let mut k: usize = 0;
-    while k < part.len() {
-        let i = wide(part[k]);
-        most = greater(most, tables::wide(tables::priority(rules, i)) + 1);
-        k += 1;
+    for &x in asked.part {
+        most = most.max(order::rule_at(asked.rules, x).priority() as usize + 1);
     }
     most
 }
 
 // The greatest worth of a test. Only a test that a rule of highest priority has can count a rule.
-fn best_worth(rules: &[u32], states: &[u8; 252], root: &[u8; 252], part: &[u8]) -> usize
-    requires { Parts rules.now part.now × Names most rules.now part.now }
-    ensures { result ≡ part_worth (worth_of rules.now states.now root.now part.now) rules.now part.now }
+fn best_worth(asked: &Asked) -> usize
+    requires { Names most asked.now.rules.now asked.now.part.now }
+    ensures { result ≡ part_worth (worth_in asked.now) asked.now.rules.now asked.now.part.now }
 {
-    let top = top_of(rules, part);
+    let top = top_of(asked);
     let mut most: usize = 0;
-    let mut k: usize = 0;
-    while k < part.len() {
-        let i = wide(part[k]);
-        most = of_rule(rules, states, root, part, top, i, most);
-        k += 1;
+    for &x in asked.part {
+        let rule = order::rule_at(asked.rules, x);
+        most = of_rule(asked, top, &rule, most);
     }
     most
 }
 
 // The test of a worth.
-fn test_of(key: usize) -> Best
+#[tactic(auto, unfolding(crate::specs::Worth::decoded, crate::specs::Worth::of_code))]
+fn decode(key: usize) -> Option<Test>
     ensures { result ≡ decoded key }
 {
     if key == 0 {
-        return Best::None;
+        return None;
     }
-    let low = key % CODE_ROOM;
-    if LAST_CODE < low {
-        return Best::None;
-    }
-    let c = LAST_CODE - low;
+    let c = LAST_CODE.checked_sub(key % CODE_ROOM)?;
     if c < 256 {
-        return Best::Match(c as u8);
+        return Some(Test::On(c));
     }
-    Best::Equal(((c - 256) / 256) as u8, ((c - 256) % 256) as u8)
+    Some(Test::Same((c - 256) / 256, (c - 256) % 256))
 }
 
 // Internal: the best test of the part's rules, in a scope of these states and class roots.
-pub fn best_control_flow(rules: &[u32], states: &[u8; 252], root: &[u8; 252], part: &[u8]) -> Best
+pub fn best_control_flow(
+    rules: &[u32],
+    states: &[u8; MOST],
+    root: &[u8; MOST],
+    part: &[u8],
+) -> Option<Test>
     requires { Parts rules.now part.now × Names most rules.now part.now }
     ensures { Chosen rules.now states.now root.now part.now result }
 {
-    test_of(best_worth(rules, states, root, part))
+    decode(best_worth(&Asked {
+        rules,
+        states,
+        root,
+        part,
+        bar: 0,
+    }))
 }

@@ -58,3 +58,8 @@ sizes b S R es er e =
     let t = eqb-true (length b / 512) (blocks_in (le16 b 4) (le16 b 6)) (every_at _ 2 e) in
     let t' : length b / 512 ≡ blocks_in S R = rw (es, er) t in
     record { sites = omega arith; rules = omega arith; site_room = omega arith; room = omega arith }
+
+-- what each of the two functions that ask for frames is proved by
+pub ruleset frames = (frame_head, frame_sites, frame_rules)
+
+pub ruleset totals = (many_sites, many_rules, wrong_total, by_blocks)

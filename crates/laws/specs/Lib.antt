@@ -22,3 +22,5 @@ pub mod Sides
 pub mod Firsts
 pub mod Lending
 pub mod Options
+pub mod Chains
+pub mod Maps

@@ -1,274 +1,299 @@
-// Bytes, numbers and lines, written into lent text one behind the other until it is full.
+// Bytes, numbers and lines of a listing, written into lent text one behind the other until it is full.
 #![tactic(auto)]
 
-ghost use Rattle.std.specs.Prelude.{◌≡◌, ◌++◌, ◌∷◌, []};
+ghost use Rattle.std.specs.Prelude.{◌≡◌, ◌++◌, ◌∷◌, [], length, map};
+ghost use Rattle.definition.specs.Lists.{flat};
 ghost use Rattle.definition.specs.Tables.{signed};
 ghost use Rattle.definition.specs.Read.{place_of};
-ghost use Rattle.definition.specs.Listing.{decimal, sign, magnitude, signed_decimal, degrees, kind_text, place_text, points, start, let_line, match_line, equal_line, return_line};
-ghost use Rattle.line.specs.Writes.{Writes, Indents, Spelled, Room, Deeper, numbers_of, places_head, arm_head};
+ghost use Rattle.definition.specs.Listing.{decimal, sign, magnitude, signed_decimal, degrees, kind_text, place_text, places_text};
+ghost use Rattle.definition.specs.Listing.{indent, points, start, let_line, arm_line, match_line, equal_line, return_line};
+ghost use Rattle.room.specs.Wrote.{Writes};
+ghost use Rattle.tree.specs.Patterns.{pattern_at};
+ghost use Rattle.line.specs.Writes.{Spelled, deeper};
 
-// The word of an empty place.
-pub const EMPTY: u32 = 65535;
+use room::Writer;
+use std::marker::Model;
+use std::mem;
+use tree::{DEPTH, EMPTY};
 
-// The numbers of the steps and arms that something stands in, the outermost first; two for each of 9 blocks.
-#[derive(Clone, Copy)]
+// The kinds of a pattern that have a number; every other is a Some.
+const CONST_INT: u32 = 0;
+
+const CONST_PRIM: u32 = 1;
+
+const VARIANT: u32 = 2;
+
+// The numbers of a path at most: two for each block that may stand one inside another.
+pub const LONGEST: usize = 2 * DEPTH;
+
+// The numbers of the steps and arms that something stands in, the outermost first. A buffer and its length: no heap is used.
+#[derive(Drop)]
 pub struct Path {
-    pub numbers: [u32; 18],
-    pub depth: usize,
+    numbers: [u32; LONGEST],
+    depth: usize,
 }
 
-pub fn root() -> Path
-    ensures { (result.depth ≡ 0) × Room result 18 }
-{
-    Path {
-        numbers: [0u32; 18],
-        depth: 0,
+impl Model for Path {
+    ghost use Rattle.std.specs.Prelude.{List, ℕ, take, ◌≤◌};
+    ghost use Rattle.line.specs.declared.TheConstants.{LONGEST};
+
+    ghost Value = { List ℕ };
+
+    ghost view = { λ p. take p.depth p.numbers };
+
+    ghost invariant = { λ p. p.depth ≤ LONGEST };
+}
+
+impl Path {
+    pub const fn root() -> Path
+        ensures { result ≡ [] }
+    {
+        Path {
+            numbers: [0; LONGEST],
+            depth: 0,
+        }
+    }
+
+    // One number more; a path that is as long as can be stays.
+    fn deeper(&self, i: u32) -> Path
+        ensures { result ≡ deeper self.now i }
+    {
+        let mut numbers = self.numbers;
+        let mut depth = self.depth;
+        if depth < LONGEST {
+            numbers[depth] = i;
+            depth += 1;
+        }
+        Path { numbers, depth }
+    }
+
+    // Internal: goes one number deeper, and gives the path that it was.
+    pub fn enter(&mut self, i: u32) -> Path
+        ensures into { self.new ≡ deeper self.old i }
+        ensures left { result ≡ self.old }
+    {
+        let inner = self.deeper(i);
+        mem::replace(self, inner)
     }
 }
 
-// Internal: one number more.
-pub fn deeper(path: Path, i: u32) -> Path
-    requires { Room path 1 }
-    ensures { Deeper path i result }
+// Every byte goes through here: whoever is lent a room of bytes knows that it is shorter than 2^63, as `put` requires.
+fn put_byte(b: u8, out: &mut Writer<u8>)
+    ensures { Writes out.old (b ∷ []) out.new }
 {
-    let mut next = path;
-    let depth = path.depth;
-    next.numbers[depth] = i;
-    next.depth = depth + 1;
-    next
+    out.put(b);
 }
 
-pub fn put_byte(b: u8, text: &mut [u8], at: usize) -> usize
-    ensures { Writes text.old at (b ∷ []) result text.new }
+fn put_text(source: &[u8], out: &mut Writer<u8>)
+    ensures { Writes out.old source.now out.new }
 {
-    if at < text.len() {
-        text[at] = b;
-        return at + 1;
+    for byte in source {
+        put_byte(*byte, out);
     }
-    text.len() + 1
 }
 
-fn put_text(source: &[u8], text: &mut [u8], at: usize) -> usize
-    ensures { Writes text.old at source.now result text.new }
+// The digits in front of the last one, then the last one. By hand, because what std prints goes to memory of its own or to a
+// formatter, whose text no clause ties to the definition's digits.
+#[tactic(auto, using(crate::proofs::Writing::spelled_one, crate::proofs::Writing::spelled_more))]
+fn put_digits(n: u32, out: &mut Writer<u8>)
+    ensures { Spelled n out.old out.new }
 {
-    let mut pos = at;
-    let mut k: usize = 0;
-    while k < source.len() {
-        pos = put_byte(source[k], text, pos);
-        k += 1;
+    if n >= 10 {
+        put_digits(n / 10, out);
     }
-    pos
+    put_byte(b'0' + (n % 10) as u8, out);
 }
 
-// The digits in front of the last one, then the last one.
-fn put_digits(n: u32, text: &mut [u8], at: usize) -> usize
-    ensures { Spelled n text.old at result text.new }
+#[tactic(auto, using(crate::proofs::Writing::spelled_decimal))]
+fn put_decimal(n: u32, out: &mut Writer<u8>)
+    ensures { Writes out.old (decimal n) out.new }
 {
-    if n < 10 {
-        return put_byte(48 + n as u8, text, at);
-    }
-    let next = put_digits(n / 10, text, at);
-    put_byte(48 + (n % 10) as u8, text, next)
-}
-
-fn put_decimal(n: u32, text: &mut [u8], at: usize) -> usize
-    ensures { Writes text.old at (decimal n) result text.new }
-{
-    put_digits(n, text, at)
+    put_digits(n, out);
 }
 
 // A name and a number.
-fn put_field(name: &[u8], n: u32, text: &mut [u8], at: usize) -> usize
-    ensures { Writes text.old at (name.now ++ decimal n) result text.new }
+fn put_field(name: &[u8], n: u32, out: &mut Writer<u8>)
+    ensures { Writes out.old (name.now ++ decimal n) out.new }
 {
-    let next = put_text(name, text, at);
-    put_decimal(n, text, next)
+    put_text(name, out);
+    put_decimal(n, out);
 }
 
-// The sign and the magnitude of the signed number whose word is w.
-fn put_sign(w: u32, text: &mut [u8], at: usize) -> usize
-    ensures { Writes text.old at (sign (signed w)) result text.new }
+// The sign of the signed number whose word is w.
+fn put_sign(w: u32, out: &mut Writer<u8>)
+    ensures { Writes out.old (sign (signed w)) out.new }
 {
-    if w < 2147483648 {
-        return at;
+    if w.cast_signed() < 0 {
+        put_byte(b'-', out);
     }
-    put_byte(b'-', text, at)
 }
 
 fn magnitude(w: u32) -> u32
     ensures { result ≡ magnitude (signed w) }
 {
-    if w < 2147483648 {
-        return w;
-    }
-    4294967295 - w + 1
+    w.cast_signed().unsigned_abs()
 }
 
-fn put_signed(w: u32, text: &mut [u8], at: usize) -> usize
-    ensures { Writes text.old at (signed_decimal (signed w)) result text.new }
+// The signed number whose word is w.
+#[tactic(auto, using(room::proofs::Written::writes_then), unfolding(definition::specs::Listing::signed_decimal))]
+fn put_signed(w: u32, out: &mut Writer<u8>)
+    ensures { Writes out.old (signed_decimal (signed w)) out.new }
 {
-    let next = put_sign(w, text, at);
-    put_decimal(magnitude(w), text, next)
+    put_sign(w, out);
+    put_decimal(magnitude(w), out);
 }
 
 // Tenths of a degree as degrees with one decimal.
-fn put_degrees(w: u32, text: &mut [u8], at: usize) -> usize
-    ensures { Writes text.old at (degrees (signed w)) result text.new }
+fn put_degrees(tenths: u32, out: &mut Writer<u8>)
+    ensures { Writes out.old (degrees (signed tenths)) out.new }
 {
-    let first = put_sign(w, text, at);
-    let tenths = magnitude(w);
-    let second = put_decimal(tenths / 10, text, first);
-    let third = put_byte(b'.', text, second);
-    put_decimal(tenths % 10, text, third)
+    put_sign(tenths, out);
+    let size = magnitude(tenths);
+    put_decimal(size / 10, out);
+    put_byte(b'.', out);
+    put_decimal(size % 10, out);
+}
+
+// A name and a signed number.
+fn put_named(name: &[u8], w: u32, out: &mut Writer<u8>)
+    ensures { Writes out.old (name.now ++ signed_decimal (signed w)) out.new }
+{
+    put_text(name, out);
+    put_signed(w, out);
 }
 
 // A ConstInt: an oil limit in tenths of a degree.
-fn put_limit(w: u32, text: &mut [u8], at: usize) -> usize
-    ensures { Writes text.old at (kind_text 0 (signed w)) result text.new }
+fn put_limit(w: u32, out: &mut Writer<u8>)
+    ensures { Writes out.old (kind_text 0 (signed w)) out.new }
 {
-    let first = put_text(b"ConstInt ", text, at);
-    let second = put_signed(w, text, first);
-    let third = put_text(b" tenths = ", text, second);
-    let fourth = put_degrees(w, text, third);
-    put_text(b" degrees", text, fourth)
+    put_named(b"ConstInt ", w, out);
+    put_text(b" tenths = ", out);
+    put_degrees(w, out);
+    put_text(b" degrees", out);
 }
 
 // A pattern's kind and number.
-fn put_kind(kind: u32, w: u32, text: &mut [u8], at: usize) -> usize
-    ensures { Writes text.old at (kind_text kind (signed w)) result text.new }
+#[tactic(auto, using(room::proofs::Written::writes_then), unfolding(definition::specs::Listing::kind_text))]
+fn put_kind(kind: u32, w: u32, out: &mut Writer<u8>)
+    ensures { Writes out.old (kind_text kind (signed w)) out.new }
 {
-    if kind == 0 {
-        return put_limit(w, text, at);
+    match kind {
+        CONST_INT => put_limit(w, out),
+        CONST_PRIM => put_named(b"ConstPrim ", w, out),
+        VARIANT => put_named(b"Variant ", w, out),
+        _ => put_text(b"Some", out),
     }
-    if kind == 1 {
-        let next = put_text(b"ConstPrim ", text, at);
-        return put_signed(w, text, next);
-    }
-    if kind == 2 {
-        let next = put_text(b"Variant ", text, at);
-        return put_signed(w, text, next);
-    }
-    put_text(b"Some", text, at)
 }
 
 // A place names a site or is empty.
-pub fn put_place(w: u32, text: &mut [u8], at: usize) -> usize
-    ensures { Writes text.old at (place_text (place_of w)) result text.new }
+#[tactic(auto, using(room::proofs::Written::writes_then), unfolding(definition::specs::Listing::place_text, definition::specs::Listing::field))]
+fn put_place(w: u32, out: &mut Writer<u8>)
+    ensures { Writes out.old (place_text (place_of w)) out.new }
 {
     if w == EMPTY {
-        return put_text(b" empty", text, at);
+        put_text(b" empty", out);
+    } else {
+        put_field(b" ", w, out);
     }
-    put_field(b" ", w, text, at)
 }
 
-// What stands before n places: nothing, where there is none.
-pub fn put_places(n: usize, text: &mut [u8], at: usize) -> usize
-    ensures { Writes text.old at (places_head n) result text.new }
+// Nothing, where there is no place.
+fn put_places(places: &[u32], out: &mut Writer<u8>)
+    ensures { Writes out.old (places_text (map place_of places.now)) out.new }
 {
-    if n == 0 {
-        return at;
+    if places.is_empty() {
+        return;
     }
-    put_text(b" places", text, at)
+    put_text(b" places", out);
+    for place in places {
+        put_place(*place, out);
+    }
 }
 
 // Two spaces for each number of a path.
-fn put_indent(depth: usize, text: &mut [u8], at: usize) -> usize
-    ensures { Indents depth text.old at result text.new }
+fn put_indent(path: &Path, out: &mut Writer<u8>)
+    ensures { Writes out.old (indent path.now) out.new }
 {
-    let mut pos = at;
-    let mut k: usize = 0;
-    while k < depth {
-        pos = put_text(b"  ", text, pos);
-        k += 1;
+    for _ in &path.numbers[..path.depth] {
+        put_text(b"  ", out);
     }
-    pos
 }
 
 // Each number of the path with a point behind it.
-fn put_points(path: Path, text: &mut [u8], at: usize) -> usize
-    requires { Room path 0 }
-    ensures { Writes text.old at (points (numbers_of path)) result text.new }
+fn put_points(path: &Path, out: &mut Writer<u8>)
+    ensures { Writes out.old (points path.now) out.new }
 {
-    let depth = path.depth;
-    let mut pos = at;
-    let mut k: usize = 0;
-    while k < depth {
-        let n = path.numbers[k];
-        let next = put_decimal(n, text, pos);
-        pos = put_byte(b'.', text, next);
-        k += 1;
+    for n in &path.numbers[..path.depth] {
+        put_decimal(*n, out);
+        put_byte(b'.', out);
     }
-    pos
 }
 
 // The beginning of a line.
-fn put_start(path: Path, i: u32, text: &mut [u8], at: usize) -> usize
-    requires { Room path 0 }
-    ensures { Writes text.old at (start (numbers_of path) i) result text.new }
+fn put_start(path: &Path, i: u32, out: &mut Writer<u8>)
+    ensures { Writes out.old (start path.now i) out.new }
 {
-    let first = put_indent(path.depth, text, at);
-    let second = put_points(path, text, first);
-    let third = put_decimal(i, text, second);
-    put_byte(b' ', text, third)
+    put_indent(path, out);
+    put_points(path, out);
+    put_decimal(i, out);
+    put_byte(b' ', out);
 }
 
-// Internal: the line of a let.
-pub fn put_let(path: Path, s: u32, text: &mut [u8], at: usize) -> usize
-    requires { Room path 0 }
-    ensures { Writes text.old at (let_line (numbers_of path) s) result text.new }
+// The line of a let.
+fn put_let(path: &Path, s: u32, out: &mut Writer<u8>)
+    ensures { Writes out.old (let_line path.now s) out.new }
 {
-    let first = put_indent(path.depth, text, at);
-    let second = put_field(b"let site ", s, text, first);
-    put_byte(b'\n', text, second)
+    put_indent(path, out);
+    put_field(b"let site ", s, out);
+    put_byte(b'\n', out);
+}
+
+// Internal: the lines of a step's lets.
+pub fn put_lets(path: &Path, sites: &[u32], out: &mut Writer<u8>)
+    ensures { Writes out.old (flat (let_line path.now) sites.now) out.new }
+{
+    for site in sites {
+        put_let(path, *site, out);
+    }
 }
 
 // Internal: the line of a Match.
-pub fn put_match(path: Path, i: u32, s: u32, text: &mut [u8], at: usize) -> usize
-    requires { Room path 0 }
-    ensures { Writes text.old at (match_line (numbers_of path) i s) result text.new }
+pub fn put_match(path: &Path, i: u32, s: u32, out: &mut Writer<u8>)
+    ensures { Writes out.old (match_line path.now i s) out.new }
 {
-    let first = put_start(path, i, text, at);
-    let second = put_field(b"match site ", s, text, first);
-    put_byte(b'\n', text, second)
+    put_start(path, i, out);
+    put_field(b"match site ", s, out);
+    put_byte(b'\n', out);
 }
 
-// Internal: the line of an arm, up to its places.
-pub fn put_arm(path: Path, i: u32, kind: u32, w: u32, text: &mut [u8], at: usize) -> usize
-    requires { Room path 0 }
-    ensures { Writes text.old at (arm_head (numbers_of path) i kind (signed w)) result text.new }
+// Internal: the line of an arm: its pattern and its places.
+pub fn put_arm(path: &Path, i: u32, kind: u32, number: i32, places: &[u32], out: &mut Writer<u8>)
+    ensures { Writes out.old (arm_line path.now i (pattern_at kind number (length places.now)) (map place_of places.now)) out.new }
 {
-    let first = put_start(path, i, text, at);
-    let second = put_text(b"is ", text, first);
-    put_kind(kind, w, text, second)
+    put_start(path, i, out);
+    put_text(b"is ", out);
+    put_kind(kind, number.cast_unsigned(), out);
+    put_places(places, out);
+    put_byte(b'\n', out);
 }
 
 // Internal: the line of an Equal.
-pub fn put_equal(path: Path, i: u32, a: u32, b: u32, text: &mut [u8], at: usize) -> usize
-    requires { Room path 0 }
-    ensures { Writes text.old at (equal_line (numbers_of path) i a b) result text.new }
+pub fn put_equal(path: &Path, i: u32, a: u32, b: u32, out: &mut Writer<u8>)
+    ensures { Writes out.old (equal_line path.now i a b) out.new }
 {
-    let first = put_start(path, i, text, at);
-    let second = put_field(b"equal sites ", a, text, first);
-    let third = put_field(b" and ", b, text, second);
-    put_byte(b'\n', text, third)
+    put_start(path, i, out);
+    put_field(b"equal sites ", a, out);
+    put_field(b" and ", b, out);
+    put_byte(b'\n', out);
 }
 
 // Internal: the line of a Return.
-pub fn put_return(
-    path: Path,
-    i: u32,
-    rule: u32,
-    pos: u32,
-    res: u32,
-    text: &mut [u8],
-    at: usize,
-) -> usize
-    requires { Room path 0 }
-    ensures { Writes text.old at (return_line (numbers_of path) i rule pos res) result text.new }
+pub fn put_return(path: &Path, i: u32, rule: u32, pos: u32, res: u32, out: &mut Writer<u8>)
+    ensures { Writes out.old (return_line path.now i rule pos res) out.new }
 {
-    let first = put_start(path, i, text, at);
-    let second = put_field(b"return rule ", rule, text, first);
-    let third = put_field(b" pos ", pos, text, second);
-    let fourth = put_field(b" result ", res, text, third);
-    put_byte(b'\n', text, fourth)
+    put_start(path, i, out);
+    put_field(b"return rule ", rule, out);
+    put_field(b" pos ", pos, out);
+    put_field(b" result ", res, out);
+    put_byte(b'\n', out);
 }

@@ -1,6 +1,4 @@
--- Laws of what is read, and of the text that is written for it.
-pub mod Reading
-pub mod Parts
-pub mod Turns
-pub mod Whole
+-- Laws of the lister, and of the text that it leaves.
+mod Folds
+mod Whole
 pub mod Callers

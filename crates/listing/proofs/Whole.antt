@@ -1,86 +1,71 @@
--- The public call, from what `block` tells of the words; and a text that is made zero.
-use mathlib.Core.Path.{◌≡◌, refl, sym, ap, ◌∙◌}
-use mathlib.Core.Bool.{true, false, true≢false}
-use mathlib.Core.List.{List, [], ◌∷◌, ◌++◌, append-nil}
+-- The public call, from what `read` tells of the words.
+use mathlib.Core.Path.{◌≡◌, refl, sym, ap, subst, ◌∙◌}
+use mathlib.Core.Bool.{false, true≢false}
+use mathlib.Core.List.{List}
 use mathlib.Core.Option.{Option, none, some}
 use Prim.Native.Nat.{ℕ, ◌<◌, ◌≤◌}
 use native.Mathlib.Omega.{arith}
-use lib.ListN.{length, replicate, length-replicate, drop_of_length-le}
-use lib.Seq.{take_all}
+use lib.ListN.{length, replicate}
 use borrow.Author.Tests.{lt-leb, le-leb}
-use Rattle.definition.specs.Lists.{flat}
+use Rattle.std.specs.Borrow.{Bor}
+use Rattle.std.specs.Prelude.{Ok, Err}
+use Rattle.std.specs.Prelude as rust
+use Rattle.definition.specs.Tree.{Block}
 use Rattle.definition.specs.Read.{read_block}
-use Rattle.definition.specs.Listing.{listing, steps_text}
-use Rattle.definition.specs.Answers.{written, list_read, listed}
-use Rattle.room.specs.Wrote.{Wrote}
-use Rattle.room.proofs.Written.{whole_fits}
-use Rattle.listing.specs.declared.Listed.{Listed}
-use Rattle.line.specs.declared.Path.{Path}
-use Rattle.line.specs.Writes.{numbers_of}
-use Rattle.listing.specs.Ends.{Good, Leaves, is_some}
-use Rattle.line.proofs.Writing.{writes_as, Each}
+use Rattle.definition.specs.Listing.{listing}
+use Rattle.definition.specs.Answers.{answered, written, list_read, listed}
+use Rattle.refusal.specs.declared.Refusal.{Refusal}
+use Rattle.room.specs.declared.Writer.{Writer}
+use Rattle.room.specs.Wrote.{Wrote, Writes, after_all}
+use Rattle.room.proofs.Written.{whole_fits, writes_all}
+use Rattle.reading.specs.Ends.{Ends, ends}
+use Rattle.listing.specs.Ends.{Leaves, is_some}
 
-pub root_path : (p : Path) → p.depth ≡ 0 → numbers_of p ≡ []
-root_path p e = rw e
-
--- whether something is read
-pub some_read : {A : Type 0} {f : A → List ℕ} {o : Option (A × List ℕ)} {w l : List ℕ} {at n r : ℕ} {m : List ℕ} → Good f o w l at n r m → true ≡ is_some o
-some_read g = sym (ap is_some g.is)
-
-pub none_read : {A : Type 0} (o : Option A) → o ≡ none → false ≡ is_some o
-none_read o e = sym (ap is_some e)
-
-pub not_read : {A : Type 0} (o : Option A) → false ≡ is_some o → o ≡ none
+not_read : {A : Type 0} (o : Option A) → false ≡ is_some o → o ≡ none
 not_read none e = refl
 not_read (some a) e = absurd (true≢false (sym e))
 
-pub never_both : {A : Type 0} {B : Type 0} (o : Option A) → true ≡ is_some o → o ≡ none → B
-never_both none e q = absurd (true≢false e)
-never_both (some a) e q = absurd (true≢false (sym (none_read (some a) q)))
+-- a tree that was read, and its text that was written
+pub told_some : {o p : Writer ℕ} {r : Option (Block × List ℕ)} {s : rust.Option (Bor (List ℕ))} {rest : Bor (List ℕ)}
+    → Ends (λ k. after_all o (listing k)) r s p → s ≡ rust.Some rest
+    → (k : Block) × (r ≡ some (k, rest.now)) × Writes o (listing k) p
+told_some {o} {p} {r} {s} g e =
+    let t = subst (λ v. ends (λ k. after_all o (listing k)) r p v) e g.is in
+    (t.0, t.1, subst (λ v. Writes o (listing t.0) v) (sym t.2) (writes_all o (listing t.0)))
 
 module _ (ws l : List ℕ) where
-  pub no_tree : read_block 9 ws ≡ none → Leaves (listed ws l) (Listed.Refused 11) l
+  pub no_tree : false ≡ is_some (read_block 9 ws) → Leaves (listed ws l) (Err Refusal.Tree) l
   unfolding listed
-  no_tree e = record { answer = rw e; text = rw e }
+  no_tree e =
+      let n = not_read (read_block 9 ws) e in
+      record { answer = rw n; text = rw n }
 
-  module _ {p : List ℕ} {n r : ℕ} {m : List ℕ} (e : p ≡ []) (g : Good (steps_text p 1) (read_block 9 ws) ws l 0 n r m) where
-    is_written : listed ws l ≡ written (listing g.thing) l
+  -- o is a writer at the text's front, and p after it wrote the tree k; m is the text then
+  module _ {o p : Writer ℕ} {k : Block} {rest : List ℕ} (b : o.room.now ≡ l) (z : o.at ≡ 0) (e : read_block 9 ws ≡ some (k, rest))
+      (v : Writes o (listing k) p) where
+    is_written : listed ws l ≡ written (listing k) l
     unfolding listed
-    is_written = ap (list_read l) g.is
+    is_written = ap (list_read l) e
 
-    wrote : Wrote l 0 (listing g.thing) r m
-    unfolding listing
-    wrote = (writes_as g.so (ap (λ q. steps_text q 1 g.thing) e)).is (omega arith)
+    wrote : Wrote l 0 (listing k) p.at p.room.now
+    wrote = rw (← b, ← z) (v.is (omega (arith, z)))
 
-    pub lists : r ≤ length l → Leaves (listed ws l) (Listed.Bytes r) m
+    pub lists : p.at ≤ length p.room.now → {m : List ℕ} → m ≡ p.room.now → Leaves (listed ws l) (Ok p.at) m
     unfolding written
-    lists h =
-        let k : length (listing g.thing) ≤ length l = omega (arith, wrote.next) in
-        let f = whole_fits wrote k in
+    lists h {m} r =
+        let n : length (listing k) ≤ length l = omega (arith, wrote.next, wrote.size) in
+        let f = whole_fits wrote n in
         record {
-          answer = rw (is_written, le-leb (length (listing g.thing)) (length l) k) (ap Listed.Bytes f.0);
-          text = rw (is_written, le-leb (length (listing g.thing)) (length l) k) f.1;
+          answer = rw (is_written, le-leb (length (listing k)) (length l) n) (ap answered f.0);
+          text = rw (is_written, le-leb (length (listing k)) (length l) n) (r ∙ f.1);
         }
 
-    pub too_long : length l < r → {k : List ℕ} → k ≡ replicate (length m) 0 → Leaves (listed ws l) (Listed.Refused 9) k
+    pub too_long : length p.room.now < p.at → {m : List ℕ} → m ≡ replicate (length p.room.now) 0
+        → Leaves (listed ws l) (Err Refusal.Room) m
     unfolding written
-    too_long h {k} q =
-        let z : length l < length (listing g.thing) = omega (arith, wrote.next) in
+    too_long h {m} r =
+        let n : length l < length (listing k) = omega (arith, wrote.next, wrote.size) in
         record {
-          answer = rw (is_written, lt-leb (length (listing g.thing)) (length l) z);
-          text = rw (is_written, lt-leb (length (listing g.thing)) (length l) z) (q ∙ ap (λ x. replicate x 0) wrote.size);
+          answer = rw (is_written, lt-leb (length (listing k)) (length l) n);
+          text = rw (is_written, lt-leb (length (listing k)) (length l) n) (r ∙ ap (λ x. replicate x 0) wrote.size);
         }
-
--- ALL ZERO
-abbrev pub nought : ℕ → List ℕ
-nought b = 0 ∷ []
-
-zeros : (l : List ℕ) → flat nought l ≡ replicate (length l) 0
-zeros [] = refl
-zeros (x ∷ l) = ap (λ t. 0 ∷ t) (zeros l)
-
-pub zeroed : {k : ℕ} {l m : List ℕ} → Each nought l k l 0 k m → length l ≤ k → m ≡ replicate (length l) 0
-zeroed {k} {l} {m} e h =
-    let w : Wrote l 0 (replicate (length l) 0) k m = (writes_as e.wrote (ap (flat nought) (take_all k l h) ∙ zeros l)).is (omega arith) in
-    let n = length-replicate {A = ℕ} (length l) 0 in
-    (whole_fits w (omega (arith, n))).1 ∙ ap (λ t. replicate (length l) 0 ++ t) (drop_of_length-le l {i = length (replicate (length l) 0)} (omega (arith, n))) ∙ append-nil (replicate (length l) 0)

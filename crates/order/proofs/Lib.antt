@@ -1,5 +1,5 @@
 -- How the loops of `order` give the definition's splits, its ranking and its patterns.
-pub mod Shapes
+pub mod Compared
 pub mod Asks
 pub mod Cuts
 pub mod Ranking

@@ -1,122 +1,86 @@
 // What stands next in a case file: bytes, and little-endian words. No list is trusted to come whole or to fit.
-ghost use Rattle.std.specs.Prelude.{◌≡◌, ◌+◌, ◌*◌, ◌<◌, ◌≤◌, length};
-
 use std::io::Read;
 
-// The length of a list that does not come whole or does not fit; no room is as long.
-const NO_LIST: usize = 18446744073709551615;
+// The most that a case may hold: bytes of book, words of room, sites of a reading. Longer lists in a file are not read.
+pub const MOST_BYTES: usize = 66048;
 
-// The word that begins at byte `i`.
-fn word_at(bytes: &[u8], i: usize) -> u32
-    requires { i + 4 ≤ length bytes.now }
-{
-    u32::from_le_bytes([bytes[i], bytes[i + 1], bytes[i + 2], bytes[i + 3]])
+pub const MOST_WORDS: usize = 16384;
+
+pub const MOST_SITES: usize = 1024;
+
+// The bytes of so many words.
+const MOST_WORD_BYTES: usize = 65536;
+
+// In the file, instead of a book's length: there is no book.
+const NO_BOOK: u32 = 4294967295;
+
+// The file ends too early, or holds more than there is room for.
+#[derive(Debug, Drop)]
+pub struct Broken;
+
+fn fill(file: &mut impl Read, buffer: &mut [u8]) -> Result<(), Broken> {
+    file.read_exact(buffer).map_err(|_| Broken)
 }
 
-// The signed number of a word.
-fn number(w: u32) -> i32 {
-    w.cast_signed()
+// The next `n` bytes, at the front of the room.
+fn next_bytes<'a>(file: &mut impl Read, n: u32, room: &'a mut [u8]) -> Result<&'a [u8], Broken> {
+    let list = room.get_mut(..n as usize).ok_or(Broken)?;
+    fill(file, list)?;
+    Ok(list)
 }
 
-// The next bytes, as many as the buffer has, or false where the file ends before.
-fn fill(file: &mut impl Read, buffer: &mut [u8]) -> bool {
-    file.read_exact(buffer).is_ok()
-}
-
-// The words that the bytes stand for.
-fn put_words(bytes: &[u8], words: &mut [u32])
-    requires { 4 * length words.old ≤ length bytes.now }
-{
-    for k in 0..words.len() {
-        words[k] = word_at(bytes, 4 * k);
+// The next words, as many as there is room for.
+fn fill_words(file: &mut impl Read, words: &mut [u32]) -> Result<(), Broken> {
+    if words.len() > MOST_WORDS {
+        return Err(Broken);
     }
+    let mut bytes = [0u8; MOST_WORD_BYTES];
+    let bytes = &mut bytes[..4 * words.len()];
+    fill(file, bytes)?;
+    for (word, four) in words.iter_mut().zip(bytes.as_chunks().0) {
+        *word = u32::from_le_bytes(*four);
+    }
+    Ok(())
 }
 
-// The signed numbers that the words stand for.
-fn put_numbers(words: &[u32], numbers: &mut [i32])
-    requires { length numbers.old ≤ length words.now }
-{
-    for k in 0..numbers.len() {
-        numbers[k] = number(words[k]);
-    }
+pub fn word(file: &mut impl Read) -> Result<u32, Broken> {
+    let mut bytes = [0u8; 4];
+    fill(file, &mut bytes)?;
+    Ok(u32::from_le_bytes(bytes))
 }
 
-// The next words, by way of the bytes lent.
-fn words_through(file: &mut impl Read, bytes: &mut [u8], words: &mut [u32]) -> bool
-    requires { 4 * length words.old ≤ length bytes.old }
-{
-    if !fill(file, bytes) {
-        return false;
-    }
-    put_words(bytes, words);
-    true
+pub fn three_words(file: &mut impl Read) -> Result<[u32; 3], Broken> {
+    Ok([word(file)?, word(file)?, word(file)?])
 }
 
-// The next words, as many as there is room for, or false where the file ends before or those are more than 16,384.
-pub fn take_words(file: &mut impl Read, words: &mut [u32]) -> bool {
-    if words.len() > 16384 {
-        return false;
+// A book behind its length, if there is one.
+pub fn book<'a>(file: &mut impl Read, room: &'a mut [u8]) -> Result<Option<&'a [u8]>, Broken> {
+    let n = word(file)?;
+    if n == NO_BOOK {
+        return Ok(None);
     }
-    let mut bytes = [0u8; 65536];
-    let n = 4 * words.len();
-    words_through(file, &mut bytes[..n], words)
+    Ok(Some(next_bytes(file, n, room)?))
 }
 
-// The next word, as the length of a list.
-pub fn next_length(file: &mut impl Read) -> usize {
-    let mut four = [0u8; 4];
-    if !fill(file, &mut four) {
-        return NO_LIST;
-    }
-    tables::wide(word_at(&four, 0))
+// A list behind its length, as bytes, as words and as signed numbers.
+pub fn bytes<'a>(file: &mut impl Read, room: &'a mut [u8]) -> Result<&'a [u8], Broken> {
+    let n = word(file)?;
+    next_bytes(file, n, room)
 }
 
-// The next `n` bytes, or false where the file ends before or there is no room for as many.
-pub fn take_bytes(file: &mut impl Read, n: usize, room: &mut [u8]) -> bool {
-    if n > room.len() {
-        return false;
-    }
-    fill(file, &mut room[..n])
+pub fn words<'a>(file: &mut impl Read, room: &'a mut [u32]) -> Result<&'a [u32], Broken> {
+    let n = word(file)?;
+    let list = room.get_mut(..n as usize).ok_or(Broken)?;
+    fill_words(file, list)?;
+    Ok(list)
 }
 
-// A length and as many bytes. Returns the length.
-pub fn bytes(file: &mut impl Read, room: &mut [u8]) -> usize {
-    let n = next_length(file);
-    if !take_bytes(file, n, room) {
-        return NO_LIST;
+pub fn numbers<'a>(file: &mut impl Read, room: &'a mut [i32]) -> Result<&'a [i32], Broken> {
+    let mut as_words = [0u32; MOST_SITES];
+    let as_words = words(file, &mut as_words)?;
+    let list = room.get_mut(..as_words.len()).ok_or(Broken)?;
+    for (number, word) in list.iter_mut().zip(as_words) {
+        *number = word.cast_signed();
     }
-    n
-}
-
-// A length and as many words. Returns the length.
-pub fn words(file: &mut impl Read, room: &mut [u32]) -> usize {
-    let n = next_length(file);
-    if n > room.len() {
-        return NO_LIST;
-    }
-    if !take_words(file, &mut room[..n]) {
-        return NO_LIST;
-    }
-    n
-}
-
-// Room for the words of signed numbers.
-fn list_room() -> [u32; 1024]
-    ensures { 1024 ≡ length result }
-{
-    [0u32; 1024]
-}
-
-// A length and as many signed numbers, 1,024 at most. Returns the length.
-pub fn numbers(file: &mut impl Read, room: &mut [i32]) -> usize {
-    let mut list = list_room();
-    let n = words(file, &mut list);
-    if n > 1024 {
-        return NO_LIST;
-    }
-    if n > room.len() {
-        return NO_LIST;
-    }
-    put_numbers(&list[..n], &mut room[..n]);
-    n
+    Ok(list)
 }

@@ -1,100 +1,95 @@
-// The lines that say what differs.
-use std::io;
-use std::io::Write;
+// Answers as a case file has them, and as they are printed.
+use refusal::Refusal;
+use std::fmt;
+use walk::Found;
 
 // The highest bit: what is left of the word is a refusal's number.
 const REFUSED: u32 = 2147483648;
 
-// A walk's answer as a case file has it: 0 found, 1 nothing, or the refusal with the highest bit set; then rule and result.
-#[derive(Clone, Copy)]
+// Rule and result where there is none.
+const NONE: u32 = 65535;
+
+// The planner's answer, as a file has it: how many words, or a refusal's number. It is no Result over `Refusal`, since the number
+// in a damaged file may be any.
+#[derive(Clone, Copy, PartialEq, Eq)]
+pub enum Answer {
+    Words(u64),
+    Refused(u32),
+}
+
+// A word of the file: a word count, or the refusal with the highest bit set.
+impl From<u32> for Answer {
+    fn from(word: u32) -> Answer {
+        if word >= REFUSED {
+            Answer::Refused(word - REFUSED)
+        } else {
+            Answer::Words(u64::from(word))
+        }
+    }
+}
+
+impl From<Result<usize, Refusal>> for Answer {
+    fn from(planned: Result<usize, Refusal>) -> Answer {
+        match planned {
+            Ok(n) => Answer::Words(n as u64),
+            Err(refusal) => Answer::Refused(u32::from(refusal.number())),
+        }
+    }
+}
+
+impl fmt::Display for Answer {
+    fn fmt<W: fmt::Write>(&self, f: &mut fmt::Formatter<W>) -> fmt::Result {
+        match *self {
+            Answer::Words(n) => write!(f, "words {n}"),
+            Answer::Refused(n) => write!(f, "refused {n}"),
+        }
+    }
+}
+
+// A walk's answer: 0 found, 1 nothing, or the refusal with the highest bit set; then rule and result. It stays in the
+// words of the file, so that words which stand for no answer differ from every answer.
+#[derive(Clone, Copy, PartialEq, Eq)]
 pub struct Told {
     pub answer: u32,
     pub rule: u32,
     pub result: u32,
 }
 
-// A refusal's number as a case file has it.
-pub fn refused(n: u8) -> u32 {
-    REFUSED + n as u32
-}
-
-// Writes text as it stands.
-pub fn text(out: &mut impl Write, said: &[u8]) -> io::Result<()> {
-    out.write_all(said)
-}
-
-// Writes a number in digits.
-pub fn number(out: &mut impl Write, n: u64) -> io::Result<()> {
-    write!(out, "{n}")
-}
-
-// What the planner answered.
-fn print_planned(out: &mut impl Write, word: u64) -> io::Result<()> {
-    if word >= REFUSED as u64 {
-        text(out, b"refused ")?;
-        number(out, word - REFUSED as u64)
-    } else {
-        text(out, b"words ")?;
-        number(out, word)
+impl From<Result<Option<Found>, Refusal>> for Told {
+    fn from(walked: Result<Option<Found>, Refusal>) -> Told {
+        match walked {
+            Ok(Some(found)) => Told {
+                answer: 0,
+                rule: u32::from(found.rule),
+                result: u32::from(found.result),
+            },
+            Ok(None) => Told {
+                answer: 1,
+                rule: NONE,
+                result: NONE,
+            },
+            Err(refusal) => Told {
+                answer: REFUSED + u32::from(refusal.number()),
+                rule: NONE,
+                result: NONE,
+            },
+        }
     }
 }
 
-// What the walker answered.
-fn print_told(out: &mut impl Write, told: Told) -> io::Result<()> {
-    if told.answer >= REFUSED {
-        text(out, b"refused ")?;
-        number(out, (told.answer - REFUSED) as u64)
-    } else if told.answer == 1 {
-        text(out, b"nothing")
-    } else {
-        text(out, b"found ")?;
-        number(out, told.rule as u64)?;
-        text(out, b" ")?;
-        number(out, told.result as u64)
+impl fmt::Display for Told {
+    fn fmt<W: fmt::Write>(&self, f: &mut fmt::Formatter<W>) -> fmt::Result {
+        let Told {
+            answer,
+            rule,
+            result,
+        } = *self;
+        if answer >= REFUSED {
+            write!(f, "refused {}", answer - REFUSED)
+        } else if answer == 1 {
+            write!(f, "nothing")
+        } else {
+            write!(f, "found {rule} {result}")
+        }
     }
-}
-
-// A case's book has another answer.
-pub fn planned(out: &mut impl Write, case: usize, wanted: u64, came: u64) -> io::Result<()> {
-    text(out, b"case ")?;
-    number(out, case as u64)?;
-    text(out, b": wanted ")?;
-    print_planned(out, wanted)?;
-    text(out, b", came ")?;
-    print_planned(out, came)?;
-    text(out, b"\n")
-}
-
-// A case's book leaves another room.
-pub fn another_room(out: &mut impl Write, case: usize) -> io::Result<()> {
-    text(out, b"case ")?;
-    number(out, case as u64)?;
-    text(out, b": another room\n")
-}
-
-// A reading has another answer.
-pub fn walked(
-    out: &mut impl Write,
-    case: usize,
-    reading: usize,
-    wanted: Told,
-    came: Told,
-) -> io::Result<()> {
-    text(out, b"case ")?;
-    number(out, case as u64)?;
-    text(out, b" reading ")?;
-    number(out, reading as u64)?;
-    text(out, b": wanted ")?;
-    print_told(out, wanted)?;
-    text(out, b", came ")?;
-    print_told(out, came)?;
-    text(out, b"\n")
-}
-
-// What there is to say of a file, behind its name.
-pub fn of_file(out: &mut impl Write, name: &[u8], said: &[u8], n: u64) -> io::Result<()> {
-    text(out, name)?;
-    text(out, said)?;
-    number(out, n)?;
-    text(out, b"\n")
 }

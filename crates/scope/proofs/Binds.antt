@@ -1,8 +1,7 @@
 -- `binds`, by the tests that the code makes one after another, and the places of a pattern.
-use mathlib.Core.Path.{◌≡◌, sym, ◌∙◌}
+use mathlib.Core.Path.{◌≡◌, refl, sym, ◌∙◌}
 use mathlib.Core.Bool.{Bool, true, false, and-true, and-false}
 use mathlib.Core.List.{List, map, map-map}
-use mathlib.Core.Logic.{◌⊎◌, inl, inr}
 use mathlib.Core.Option.{none, some}
 use Prim.Native.Nat.{ℕ, ◌+◌, ◌-◌, ◌≤◌, ◌<◌}
 use native.Mathlib.Omega.{arith}
@@ -12,9 +11,10 @@ use Rattle.definition.specs.Lists.{◌below◌, every, same_number, from, upto, 
 use Rattle.definition.specs.Book.{Book, Pattern, Site, site}
 use Rattle.definition.specs.Plan.{stands_at, place_at, places}
 use Rattle.definition.specs.Scope.{binds, bound_by}
-use Rattle.definition.specs.Tables.{signed}
+use Rattle.std.proofs.Common.{ℤ, pos, negsuc, w32}
+use Rattle.std.specs.Int.{cast_unsigned}
 use Rattle.definition.specs.Tree.{word, place_word}
-use Rattle.laws.specs.Tests.{split, every_at}
+use Rattle.laws.specs.Tests.{every_at}
 use Rattle.laws.specs.Asks.{in_range, first_skip, first_hit, first_end}
 use Rattle.laws.specs.Members.{heads_one}
 
@@ -44,7 +44,11 @@ module _ (s : ℕ) (p : Pattern) (x : Site) where
 
         pub bound_below : same_number x.number p.number ≡ true → binds s p x ≡ x.position below p.fields
         unfolding binds every
-        bound_below e = rw (eq-eqb x.kind 7 k, heads_one s x.sources l, eq-eqb (get_or x.sources 0 0) s h, eq-eqb x.pattern p.kind g, e) (and-true _)
+        bound_below e =
+            rw (eq-eqb x.kind 7 k, heads_one s x.sources l, eq-eqb (get_or x.sources 0 0) s h, eq-eqb x.pattern p.kind g, e) (and-true _)
+
+-- each of the tests that `is_bound` makes
+pub ruleset bound_tests = (other_kind, other_source, other_pattern, other_number, bound_below)
 
 -- A PLACE: site x of the book is z of the table
 module _ (b : Book) (s : ℕ) (p : Pattern) (k x : ℕ) {z : Site} (e : site b x ≡ z) where
@@ -69,7 +73,8 @@ unfolding places
 places_are_words b s p = map-map place_word (place_at b s p) (upto p.fields)
 
 -- a pass that emits the sites that the pattern binds
-pub bound_is : (b : Book) (s : ℕ) (p : Pattern) (st : List ℕ) (x : ℕ) {z : Site} {t : Bool} → site b x ≡ z → binds s p z ≡ t → bound_by b s p st x ≡ t
+pub bound_is : (b : Book) (s : ℕ) (p : Pattern) (st : List ℕ) (x : ℕ) {z : Site} {t : Bool} → site b x ≡ z → binds s p z ≡ t
+    → bound_by b s p st x ≡ t
 unfolding bound_by
 bound_is b s p st x e h = rw e h
 
@@ -91,10 +96,7 @@ module _ {b : Book} {s : ℕ} {p : Pattern} {k n : ℕ} where
   pub seeking_ends : {x : ℕ} → Seeking b s p k n x → n ≤ x → none ≡ place_at b s p k
   seeking_ends {x} i h = sym (i.left ∙ first_end (in_range n) (stands_at b s p k) x h)
 
--- a number's word, read and written again
-pub word_back : (w : ℕ) → w < 0x1_0000_0000 → word (signed w) ≡ w
-word_back w h = go (split (w below 0x8000_0000))
-  where
-    go : (w below 0x8000_0000 ≡ true) ⊎ (w below 0x8000_0000 ≡ false) → word (signed w) ≡ w
-    go (inl e) = rw e
-    go (inr e) = rw e (omega arith)
+-- a number's word is its 32 bits
+pub number_word : (z : ℤ) → word z ≡ cast_unsigned w32 z
+number_word (pos n) = refl
+number_word (negsuc n) = omega arith

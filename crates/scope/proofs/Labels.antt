@@ -42,7 +42,7 @@ Rooted s = (z r k : ℕ) → s z ≡ in_set r k → (j : ℕ) × (s r ≡ in_set
 abbrev Is : Class → Type 0
 Is c = (r : ℕ) × (k : ℕ) × (c ≡ in_set r k)
 
-pub made_rooted : (root rank : List ℕ) → Made (record { root = root; rank = rank }) → Rooted (read root rank)
+pub made_rooted : (root rank : List ℕ) → Made root rank → Rooted (read root rank)
 made_rooted root rank m z r k e = go (get_or root z 0) refl e
   where
     go : (n : ℕ) → get_or root z 0 ≡ n → class_of rank n ≡ in_set r k → (j : ℕ) × (read root rank r ≡ in_set r j)

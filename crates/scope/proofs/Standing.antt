@@ -4,6 +4,7 @@ use mathlib.Core.Bool.{◌&&◌, not}
 use mathlib.Core.List.{List, []}
 use Prim.Native.Nat.{ℕ, zero, suc, ◌<◌}
 use native.Mathlib.Omega.{arith}
+use Rattle.std.specs.Prelude.{Result}
 use lib.Dec.{eqb-suc-suc}
 use lib.ListN.{get_or, set, replicate}
 use borrow.Author.Tests.{lt-ltb, ne_eqb}
@@ -14,15 +15,16 @@ use Rattle.definition.specs.Scope as plan
 use Rattle.definition.specs.Scope.{matched, nowhere, worked_out, arm_states, use_all, root, inside, joining}
 use Rattle.definition.specs.Answers.{known, mergeable, merged_sets}
 use Rattle.definition.specs.Tree.{let_words}
-use Rattle.sets.specs.declared.Merge.{Merge}
-use Rattle.sets.specs.View.{class_of, read, view, same_root}
-use Rattle.sets.specs.Promises.{Merges}
-use Rattle.room.specs.Wrote.{Wrote}
+use Rattle.refusal.specs.declared.Refusal.{Refusal}
+use Rattle.sets.specs.declared.Store.{Store}
+use Rattle.sets.specs.View.{class_of, read, same_root}
+use Rattle.sets.specs.Promises.{view, Merges}
+use Rattle.room.specs.Wrote.{Writes}
+use Rattle.room.specs.declared.Writer.{Writer}
 use Rattle.scope.specs.declared.Scope.{Scope}
-use Rattle.scope.specs.declared.Used.{Used}
 use Rattle.scope.specs.States.{arm_bindings, With, Fresh}
 use Rattle.scope.specs.Uses.{Listed}
-use Rattle.scope.specs.Classes.{label_in, Joined, store_of, Joins, matching, Stands}
+use Rattle.scope.specs.Classes.{label_in, Joined, Joins, matching, Stands}
 use Rattle.scope.proofs.Labels.{made_rooted, merged_linked, same_linked}
 
 -- CLASSES
@@ -49,25 +51,30 @@ module _ {ps : List Pair} {root rank : List ℕ} (j : Joined ps root rank) where
   -- by the roots alone
   pub roots_linked : (x y : ℕ) → (x ≡ y → ⊥) → same_root root x y ≡ linked ps x y
   unfolding same_root
-  roots_linked x y n = go (get_or root x 0) (get_or root y 0) ∙ same_linked ps (read root rank) (made_rooted root rank j.made) j.agree x y n
+  roots_linked x y n =
+      go (get_or root x 0) (get_or root y 0) ∙ same_linked ps (read root rank) (made_rooted root rank j.made) j.agree x y n
     where
       go : (p q : ℕ) → not (p is 0) && p is q ≡ same_class (class_of rank p) (class_of rank q)
       go zero q = refl
       go (suc p) zero = rw (ne_eqb (suc p) 0 (λ e. omega arith))
       go (suc p) (suc q) = rw (ne_eqb (suc p) 0 (λ e. omega arith)) (eqb-suc-suc p q)
 
-pub joins : (s : Scope) (x y : ℕ) → x < most → y < most → (x ≡ y → ⊥) → {m : Merge} → Merges (store_of s) x y m
-    → Joins x y s (record { states = s.states; root = m.store.root; rank = m.store.rank })
+-- states st, and the classes of a store
+abbrev pub scope_of : List ℕ → Store → Scope
+scope_of st k = record { states = st; root = k.root; rank = k.rank }
+
+pub joins : (st : List ℕ) (k t : Store) (x y : ℕ) → x < most → y < most → (x ≡ y → ⊥) → {r : Result (Unit {0}) Refusal}
+    → Merges k x y t r → Joins x y (scope_of st k) (scope_of st t)
 unfolding merged_sets mergeable known every
-joins s x y hx hy n {m} h =
-    let e : view m.store ≡ merge x y (view (store_of s)) = h.sets ∙ rw (lt-ltb x most hx, lt-ltb y most hy, ne_eqb x y n) in
+joins st k t x y hx hy n h =
+    let e : view t ≡ merge x y (view k) = h.sets ∙ rw (lt-ltb x most hx, lt-ltb y most hy, ne_eqb x y n) in
     record {
       states = refl;
       classes = λ ps j. record {
-        made = h.made;
+        made = t.made;
         agree = λ u v.
-            ap (λ (t : Sets). label_in (t u) u is label_in (t v) v) e
-            ∙ merged_linked ps (view (store_of s)) (made_rooted s.root s.rank j.made) j.agree x y u v;
+            ap (λ (s : Sets). label_in (s u) u is label_in (s v) v) e
+            ∙ merged_linked ps (view k) (made_rooted k.root k.rank j.made) j.agree x y u v;
       };
     }
 
@@ -87,13 +94,17 @@ module _ {σ : plan.Scope} {s : Scope} (h : Stands σ s) where
   stands_joining j = record { states = j.states ∙ h.states; classes = j.classes σ.joined h.classes }
 
   -- a step's let list: the scope after it, and its words
-  module _ {b : Book} {ss : List ℕ} {l : List ℕ} {at : ℕ} {r : Used} {m : List ℕ} (w : Listed b ss s l at r m) where
-    pub stands_used : Stands (record { states = (use_all b ss σ.states).states; joined = σ.joined }) r.scope
-    stands_used = record { states = w.scope.states ∙ ap (λ st. (use_all b ss st).states) h.states; classes = joined_with w.scope h.classes }
+  module _ {b : Book} {ss : List ℕ} {o : Writer ℕ} {n : ℕ} {r : Scope} {p : Writer ℕ} (w : Listed b ss s o n r p) where
+    pub stands_used : Stands (record { states = (use_all b ss σ.states).states; joined = σ.joined }) r
+    stands_used = record {
+      states = w.scope.states ∙ ap (λ st. (use_all b ss st).states) h.states;
+      classes = joined_with w.scope h.classes;
+    }
 
-    pub used_words : Wrote l at (let_words (use_all b ss σ.states).lets) r.at m
-    used_words = subst (λ st. Wrote l at (let_words (use_all b ss st).lets) r.at m) h.states w.wrote
+    pub used_words : Writes o (let_words (use_all b ss σ.states).lets) p
+    used_words = subst (λ st. Writes o (let_words (use_all b ss st).lets) p) h.states w.wrote
 
-pub stands_inside : (b : Book) (σ : plan.Scope) (x : ℕ) (p : Pattern) {s r : Scope} → Stands (matching σ x) s → With (arm_bindings b x p s.states) s r → Stands (inside b σ x p) r
+pub stands_inside : (b : Book) (σ : plan.Scope) (x : ℕ) (p : Pattern) {s r : Scope} → Stands (matching σ x) s
+    → With (arm_bindings b x p s.states) s r → Stands (inside b σ x p) r
 unfolding inside arm_states arm_bindings
 stands_inside b σ x p h w = record { states = w.states ∙ ap (arm_bindings b x p) h.states; classes = joined_with w h.classes }

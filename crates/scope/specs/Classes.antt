@@ -5,7 +5,6 @@ use Rattle.definition.specs.Book.{Pair, linked}
 use Rattle.definition.specs.Sets.{Class, unmerged, in_set}
 use Rattle.definition.specs.Scope as plan
 use Rattle.definition.specs.Scope.{matched}
-use Rattle.sets.specs.declared.Store.{Store}
 use Rattle.sets.specs.View.{read, Made}
 use Rattle.scope.specs.declared.Scope.{Scope}
 
@@ -16,11 +15,8 @@ label_in (in_set r k) z = r
 
 -- a store of these roots and ranks has the classes of the pairs
 pub record Joined (ps : List Pair) (root rank : List ℕ) : Type 0 where
-  pub made : Made (record { root = root; rank = rank })
+  pub made : Made root rank
   pub agree : (u v : ℕ) → label_in (read root rank u) u is label_in (read root rank v) v ≡ linked ps u v
-
-abbrev pub store_of : Scope → Store
-store_of s = record { root = s.root; rank = s.rank }
 
 -- r is s with one pair more
 pub record Joins (x y : ℕ) (s r : Scope) : Type 0 where

@@ -1,4 +1,5 @@
 -- What the contracts of `scope` cite.
+pub mod Table
 pub mod Drawn
 pub mod States
 pub mod Uses

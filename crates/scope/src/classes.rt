@@ -2,22 +2,19 @@
 ghost use Rattle.std.specs.Prelude.{◌≡◌, ◌<◌};
 ghost use Rattle.definition.specs.Book.{most};
 ghost use Rattle.sets.specs.View.{Made};
-ghost use Rattle.scope.specs.Classes.{store_of, Joins};
+ghost use Rattle.scope.specs.Classes.{Joins};
 
 use crate::Scope;
-use sets::{Store, Told};
+use sets::Store;
 
-// Internal: the scope inside an Equal, where the classes of two sites are one.
+// Internal: the scope inside an Equal, where the classes of two sites are one. Two different sites are never refused.
 pub fn join(scope: Scope, x: usize, y: usize) -> Scope
-    requires { Made (store_of scope) × ((x < most) × ((y < most) × (x ≡ y → ⊥))) }
+    requires { Made scope.root scope.rank × ((x < most) × ((y < most) × (x ≡ y → ⊥))) }
     ensures { Joins x y scope result }
 {
-    let states = scope.states;
-    let root = scope.root;
-    let rank = scope.rank;
-    let merge = Store { root, rank }.merge(x, y);
-    let store = merge.store;
-    let root = store.root;
-    let rank = store.rank;
+    let Scope { states, root, rank } = scope;
+    let mut classes = Store { root, rank };
+    let _ = classes.merge(x, y);
+    let Store { root, rank } = classes;
     Scope { states, root, rank }
 }

@@ -13,7 +13,8 @@ use Rattle.definition.specs.Sets.{Class, unmerged, in_set, Sets, entered, enter}
 use Rattle.definition.specs.Lists.{◌is◌}
 use Rattle.std.specs.Prelude.{if◌then◌else◌}
 use Rattle.sets.specs.declared.Store.{Store}
-use Rattle.sets.specs.View.{class_of, read, view, tally, Made, Holds}
+use Rattle.sets.specs.View.{class_of, read, tally, Made}
+use Rattle.sets.specs.Promises.{view}
 use Rattle.sets.proofs.Tallies.{tally_pos, tally_set}
 
 -- a store at another root's rank leaves a class as it was
@@ -21,7 +22,7 @@ class_other : (k : List ℕ) (x a v : ℕ) → (v ≡ suc x → ⊥) → class_o
 class_other k x a zero n = refl
 class_other k x a (suc r) n = ap (in_set r) (get_or-set_other k x r a 0 (λ e. n (ap suc e)))
 
-module _ (s : Store) (made : Made s) (x : ℕ) (hl : x < length s.root) (hk : x < length s.rank) (free : ◌≡◌ {A = ℕ} (get_or s.root x 0) 0) where
+module _ (s : Store) (x : ℕ) (hl : x < length s.root) (hk : x < length s.rank) (free : ◌≡◌ {A = ℕ} (get_or s.root x 0) 0) where
   at_x : get_or (set s.root x (x + 1)) x 0 ≡ suc x
   at_x = get_or-set_same s.root x (x + 1) 0 hl ∙ add-one x
 
@@ -30,7 +31,7 @@ module _ (s : Store) (made : Made s) (x : ℕ) (hl : x < length s.root) (hk : x 
 
   -- x represented nobody
   no_root : (z : ℕ) → get_or s.root z 0 ≡ suc x → ⊥
-  no_root z e = omega (arith, made.roots z x e, free)
+  no_root z e = omega (arith, s.made.roots z x e, free)
 
   entered_view : (z : ℕ) → read (set s.root x (x + 1)) (set s.rank x 0) z ≡ enter (view s) x z
   entered_view z = go (ℕ_discrete z x)
@@ -44,19 +45,23 @@ module _ (s : Store) (made : Made s) (x : ℕ) (hl : x < length s.root) (hk : x 
     where
       go : Dec (z ≡ x) → get_or (set s.root x (x + 1)) r 0 ≡ suc r
       go (yes e) = let q : r ≡ x = omega (arith, at_x, rw e at h) in rw q at_x
-      go (no n) = let e = made.roots z r (sym (at_else z n) ∙ h) in at_else r (λ q. omega (arith, free, rw q at e)) ∙ e
+      go (no n) = let e = s.made.roots z r (sym (at_else z n) ∙ h) in at_else r (λ q. omega (arith, free, rw q at e)) ∙ e
 
-  entered_ranks : (r : ℕ) → get_or (set s.root x (x + 1)) r 0 ≡ suc r → get_or (set s.rank x 0) r 0 < tally (suc r) (set s.root x (x + 1))
+  entered_ranks : (r : ℕ) → get_or (set s.root x (x + 1)) r 0 ≡ suc r
+      → get_or (set s.rank x 0) r 0 < tally (suc r) (set s.root x (x + 1))
   entered_ranks r h = go (ℕ_discrete r x)
     where
       go : Dec (r ≡ x) → get_or (set s.rank x 0) r 0 < tally (suc r) (set s.root x (x + 1))
       go (yes e) = rw (e, get_or-set_same s.rank x 0 0 hk) (tally_pos (set s.root x (x + 1)) x x at_x)
       go (no n) =
           rw (get_or-set_other s.rank x r 0 0 n, tally_set s.root x r (x + 1) free (λ e. n (omega arith)))
-          (made.ranks r (sym (at_else r n) ∙ h))
+          (s.made.ranks r (sym (at_else r n) ∙ h))
 
-  pub enters : Holds (record { root = set s.root x (x + 1); rank = set s.rank x 0 }) (enter (view s) x)
-  enters = record { sets = fun_ext entered_view; made = record { roots = entered_roots; ranks = entered_ranks } }
+  pub entered_made : Made (set s.root x (x + 1)) (set s.rank x 0)
+  entered_made = record { roots = entered_roots; ranks = entered_ranks }
+
+  pub entered_sets : read (set s.root x (x + 1)) (set s.rank x 0) ≡ enter (view s) x
+  entered_sets = fun_ext entered_view
 
 entered_in : (k : List ℕ) (x v : ℕ) → (◌≡◌ {A = ℕ} v 0 → ⊥) → class_of k v ≡ entered x (class_of k v)
 entered_in k x zero n = absurd (n refl)

@@ -1,5 +1,5 @@
 -- Laws that belong to no one function.
-pub mod Members
+pub mod Listed
 pub mod Tallies
 pub mod Entering
 pub mod Moving

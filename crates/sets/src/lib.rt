@@ -1,306 +1,173 @@
-// Disjoint sets of the ids 0 to 251, in a store that each call takes and hands back.
+// Disjoint sets of the ids 0 to 251, in a store of fixed size.
 #![tactic(auto)]
 
-ghost use Rattle.std.specs.Prelude.{◌≡◌, map, ◌≤◌, ◌<◌};
-ghost use Rattle.definition.specs.Sets.{no_sets, enter, join};
-ghost use Rattle.laws.specs.Loops.{relabel};
-ghost use Rattle.sets.specs.View.{view, Made, Holds};
-ghost use Rattle.sets.specs.Promises.{Finds, Merges, Sames, Tells, Removes};
-ghost use Rattle.sets.specs.Entries.{Moves, Joinable, Collects};
-ghost use Rattle.sets.specs.Determined.{empty_determined, find_determined, merge_determined, same_determined, told_determined, remove_determined};
+ghost use Rattle.std.specs.Prelude.{◌≡◌, ◌<◌, ◌≤◌, get_or, MatchResult};
+ghost use Rattle.definition.specs.Book.{most};
+ghost use Rattle.refusal.specs.declared.Refusal.{Refusal};
+ghost use Rattle.sets.specs.View.{Made};
+ghost use Rattle.sets.specs.Told.{Tells};
 
-// A store of disjoint sets. It is made by `Store::empty` and by the calls below, and by nothing else.
+use refusal::Refusal;
+use std::cmp::Ordering;
+use tree::MOST;
+
+// A store of disjoint sets. The two arrays are public, because `scope` keeps them apart and makes a store to merge.
 #[derive(Clone, Copy)]
 pub struct Store {
     // Entry z: 0 where z is unmerged, and else 1 more than z's representative.
-    pub root: [u8; 252],
+    pub root: [u8; MOST],
     // Entry r: the rank of the set whose representative is r.
-    pub rank: [u8; 252],
+    pub rank: [u8; MOST],
+    // A representative represents itself, and its rank is below the number of its set's members. The arrays are two and no array of
+    // pairs, since `told_of` is asked where a `root` alone lies.
+    pub ghost made: { Made root rank },
 }
 
-// The answer of `find`: the representative, nothing for an unmerged id, or the refusal's number.
-#[derive(Clone, Copy)]
-pub enum Found {
-    Rep(usize),
-    Nothing,
-    Refused(u8),
+// The members of a removed set, ascending at the front of `ids`, with zeros behind them: a buffer with its length,
+// because the project uses no heap.
+#[derive(Clone, Copy, Debug)]
+pub struct Members {
+    pub ids: [u8; MOST],
+    pub count: usize,
 }
 
-// What `find` hands back.
-#[derive(Clone, Copy)]
-pub struct Find {
-    pub store: Store,
-    pub found: Found,
-}
-
-// The answer of `merge`: it was done, or the refusal's number.
-#[derive(Clone, Copy)]
-pub enum Merged {
-    Done,
-    Refused(u8),
-}
-
-// What `merge` hands back.
-#[derive(Clone, Copy)]
-pub struct Merge {
-    pub store: Store,
-    pub merged: Merged,
-}
-
-// The answer of `in_same_set`: whether both are in one set, or the refusal's number.
-#[derive(Clone, Copy)]
-pub enum Told {
-    Is(bool),
-    Refused(u8),
-}
-
-// What `in_same_set` hands back.
-#[derive(Clone, Copy)]
-pub struct Same {
-    pub store: Store,
-    pub told: Told,
-}
-
-// The answer of `remove_set_of`: how many members the set had, or the refusal's number.
-#[derive(Clone, Copy)]
-pub enum Removed {
-    Members(usize),
-    Refused(u8),
-}
-
-// What `remove_set_of` hands back. The members stand ascending at the front of `members`, and zeros after them.
-#[derive(Clone, Copy)]
-pub struct Removal {
-    pub store: Store,
-    pub members: [u8; 252],
-    pub removed: Removed,
-}
-
-// The first `count` of `ids`.
-#[derive(Clone, Copy)]
-struct Listed {
-    ids: [u8; 252],
-    count: usize,
-}
-
-fn wide(x: u8) -> usize
-    ensures { result ≡ x }
+// The entry of x in a store's `root`. An id above 251 is refused.
+fn entry_of(root: &[u8; MOST], x: usize) -> Result<u8, Refusal>
+    ensures { MatchResult result (λ e. (x < most) × (e ≡ get_or root.now x 0)) (λ r. (most ≤ x) × (r ≡ Refusal.Id)) }
 {
-    x as usize
-}
-
-fn renamed(v: u8, from: u8, to: u8) -> u8
-    ensures { result ≡ relabel from to v }
-{
-    if v == from { to } else { v }
-}
-
-fn relabelled(old: [u8; 252], from: u8, to: u8) -> [u8; 252]
-    ensures { result ≡ map (relabel from to) old }
-{
-    let mut l = old;
-    let mut i: usize = 0;
-    while i < 252 {
-        l[i] = renamed(l[i], from, to);
-        i += 1;
-    }
-    l
-}
-
-// The ids whose entry is `a`, ascending.
-fn ids_with(l: [u8; 252], a: u8) -> Listed
-    ensures { Collects l a result }
-{
-    let mut ids = [0u8; 252];
-    let mut n: usize = 0;
-    let mut i: usize = 0;
-    while i < 252 {
-        if l[i] == a {
-            ids[n] = i as u8;
-            n += 1;
-        }
-        i += 1;
-    }
-    Listed { ids, count: n }
+    root.get(x).copied().ok_or(Refusal::Id)
 }
 
 // The question of `in_same_set` to a store's `root` where it lies, with no copy of the store.
-pub fn told_of(root: &[u8; 252], x: usize, y: usize) -> Told
+pub fn told_of(root: &[u8; MOST], x: usize, y: usize) -> Result<bool, Refusal>
     ensures { Tells root.now x y result }
 {
-    if 252 <= x {
-        return Told::Refused(16);
-    }
-    if 252 <= y {
-        return Told::Refused(16);
-    }
-    let a = root[x];
-    let b = root[y];
-    if a == 0 {
-        return Told::Is(false);
-    }
-    Told::Is(a == b)
+    let a = entry_of(root, x)?;
+    let b = entry_of(root, y)?;
+    Ok(a != 0 && a == b)
 }
 
 impl Store {
+    ghost use Rattle.std.specs.Prelude.{map};
+    ghost use Rattle.definition.specs.Sets.{no_sets, enter, join};
+    ghost use Rattle.laws.specs.Loops.{relabel};
+    ghost use Rattle.sets.specs.Promises.{view, listed, Finds, Merges, Sames, Removes};
+    ghost use Rattle.sets.specs.Entries.{Joinable, ids_with};
+    ghost use Rattle.sets.specs.Determined.{empty_determined, find_determined, merge_determined};
+    ghost use Rattle.sets.specs.Determined.{same_determined, told_determined, remove_determined};
+
     // The store in which every id is unmerged.
     pub fn empty() -> Store
-        ensures { Holds result no_sets }
+        ensures { view result ≡ no_sets }
     {
         Store {
-            root: [0u8; 252],
-            rank: [0u8; 252],
+            root: [0; MOST],
+            rank: [0; MOST],
         }
+    }
+
+    // The roots after the entries `from` have become `to`.
+    fn relabelled(&self, from: u8, to: u8) -> [u8; MOST]
+        ensures { result ≡ map (relabel from to) self.now.root }
+    {
+        self.root.map(
+            |v|
+                ensures { result ≡ relabel from to v }
+            { if v == from { to } else { v } },
+        )
+    }
+
+    // The ids whose entry is `entry`, ascending.
+    fn ids_with(&self, entry: u8) -> Members
+        ensures { result ≡ listed (ids_with entry self.now.root most) }
+    {
+        let mut ids = [0; MOST];
+        let mut count: usize = 0;
+        for (id, v) in self.root.iter().enumerate() {
+            if *v == entry {
+                ids[count] = id as u8;
+                count += 1;
+            }
+        }
+        Members { ids, count }
     }
 
     // An unmerged id becomes a set of its own.
-    fn enter(self, x: usize) -> Store
-        requires made { Made self }
-        requires x_bound { x < 252 }
-        ensures { Holds result (enter (view self) x) }
+    fn enter(&mut self, x: usize)
+        requires x_bound { x < most }
+        ensures { view self.new ≡ enter (view self.old) x }
     {
-        let root = self.root;
-        if root[x] == 0 {
-            let mut next = self;
-            next.root[x] = (x + 1) as u8;
-            next.rank[x] = 0;
-            return next;
+        if self.root[x] != 0 {
+            return;
         }
-        self
+        self.root[x] = (x + 1) as u8;
+        self.rank[x] = 0;
     }
 
-    // The set of the entry `from` goes into that of the entry `to`, whose rank is then k.
-    fn moved(self, from: u8, to: u8, k: u8) -> Store
-        requires { (0 < to) × (to ≤ 252) }
-        ensures { Moves self from to k result }
+    // The sets of x and y become one: the root of greater rank stays, on a tie the first one's, whose rank grows.
+    fn join(&mut self, x: usize, y: usize)
+        requires { Joinable self.old x y }
+        ensures { view self.new ≡ join x y (view self.old) }
     {
-        let old = self.root;
-        let root = relabelled(old, from, to);
-        let mut rank = self.rank;
-        rank[wide(to) - 1] = k;
-        Store { root, rank }
-    }
-
-    // The sets of x and y become one.
-    fn join(self, x: usize, y: usize) -> Store
-        requires { Joinable self x y }
-        ensures { Holds result (join x y (view self)) }
-    {
-        let root = self.root;
-        let rank = self.rank;
-        let a = root[x];
-        let b = root[y];
+        let a = self.root[x];
+        let b = self.root[y];
         if a == b {
-            return self;
+            return;
         }
-        let j = rank[wide(a) - 1];
-        let k = rank[wide(b) - 1];
-        let first_lower = j < k;
-        if first_lower {
-            return self.moved(a, b, k);
-        }
-        let second_lower = k < j;
-        if second_lower {
-            return self.moved(b, a, j);
-        }
-        self.moved(b, a, j + 1)
+        let j = self.rank[usize::from(a) - 1];
+        let k = self.rank[usize::from(b) - 1];
+        let (from, to, rank) = match j.cmp(&k) {
+            Ordering::Less => (a, b, k),
+            Ordering::Greater => (b, a, j),
+            Ordering::Equal => (b, a, j + 1),
+        };
+        self.root = self.relabelled(from, to);
+        self.rank[usize::from(to) - 1] = rank;
     }
 
-    // The representative of x's set. Refusal 16 is an id above 251.
-    pub fn find(self, x: usize) -> Find
-        requires { Made self }
-        ensures { Finds self x result }
+    // The representative of x's set; an unmerged id has none. An id above 251 is refused.
+    pub fn find(&self, x: usize) -> Result<Option<usize>, Refusal>
+        ensures { Finds self.now x result }
     {
-        if 252 <= x {
-            return Find {
-                store: self,
-                found: Found::Refused(16),
-            };
-        }
-        let root = self.root;
-        let e = wide(root[x]);
-        if e == 0 {
-            return Find {
-                store: self,
-                found: Found::Nothing,
-            };
-        }
-        Find {
-            store: self,
-            found: Found::Rep(e - 1),
-        }
+        let label = entry_of(&self.root, x)?;
+        Ok(usize::from(label).checked_sub(1))
     }
 
-    // The sets of x and y become one, and an unmerged id enters it. Refusal 16 is an id above 251, or one id twice.
-    pub fn merge(self, x: usize, y: usize) -> Merge
-        requires { Made self }
-        ensures { Merges self x y result }
+    // The sets of x and y become one, and an unmerged id enters it. Refused is an id above 251, or one id twice;
+    // the store is then as it came.
+    pub fn merge(&mut self, x: usize, y: usize) -> Result<(), Refusal>
+        ensures { Merges self.old x y self.new result }
     {
-        if 252 <= x {
-            return Merge {
-                store: self,
-                merged: Merged::Refused(16),
-            };
+        if MOST <= x || MOST <= y || x == y {
+            return Err(Refusal::Id);
         }
-        if 252 <= y {
-            return Merge {
-                store: self,
-                merged: Merged::Refused(16),
-            };
-        }
-        if x == y {
-            return Merge {
-                store: self,
-                merged: Merged::Refused(16),
-            };
-        }
-        let one = self.enter(x);
-        let two = one.enter(y);
-        let store = two.join(x, y);
-        Merge {
-            store,
-            merged: Merged::Done,
-        }
+        self.enter(x);
+        self.enter(y);
+        self.join(x, y);
+        Ok(())
     }
 
-    // Whether x and y are in one set; an unmerged id is in none, not even with itself. Refusal 16 is an id above 251.
-    pub fn in_same_set(self, x: usize, y: usize) -> Same
-        requires { Made self }
-        ensures { Sames self x y result }
+    // Whether x and y are in one set; an unmerged id is in none, not even with itself. An id above 251 is refused.
+    pub fn in_same_set(&self, x: usize, y: usize) -> Result<bool, Refusal>
+        ensures { Sames self.now x y result }
     {
-        let told = told_of(&self.root, x, y);
-        Same { store: self, told }
+        told_of(&self.root, x, y)
     }
 
-    // The members of x's set, which are unmerged again; an unmerged id has none. Refusal 16 is an id above 251.
-    pub fn remove_set_of(self, x: usize) -> Removal
-        requires { Made self }
-        ensures { Removes self x result }
+    // The members of x's set, which are unmerged again; an unmerged id has none. An id above 251 is refused, and the
+    // store is then as it came.
+    pub fn remove_set_of(&mut self, x: usize) -> Result<Members, Refusal>
+        ensures { Removes self.old x self.new result }
     {
-        if 252 <= x {
-            return Removal {
-                store: self,
-                members: [0u8; 252],
-                removed: Removed::Refused(16),
-            };
+        let entry = entry_of(&self.root, x)?;
+        if entry == 0 {
+            return Ok(Members {
+                ids: [0; MOST],
+                count: 0,
+            });
         }
-        let root = self.root;
-        let rank = self.rank;
-        let a = root[x];
-        if a == 0 {
-            return Removal {
-                store: self,
-                members: [0u8; 252],
-                removed: Removed::Members(0),
-            };
-        }
-        let listed = ids_with(root, a);
-        let members = listed.ids;
-        let left = relabelled(root, a, 0);
-        Removal {
-            store: Store { root: left, rank },
-            members,
-            removed: Removed::Members(listed.count),
-        }
+        let members = self.ids_with(entry);
+        self.root = self.relabelled(entry, 0);
+        Ok(members)
     }
 }

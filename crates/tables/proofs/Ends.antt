@@ -7,7 +7,8 @@ use Rattle.definition.specs.Lists.{◌is◌, upto, any}
 use Rattle.definition.specs.Tables.{rule_word, pair_at, rule_at}
 use Rattle.laws.specs.Members.{any_at, mem_map, mem_from, from_bounds, mem_map_of}
 use Rattle.laws.specs.Tests.{split, clash, one_of, neither}
-use Rattle.tables.specs.Held.{is_end, end_slot}
+use Rattle.std.specs.Prelude.{Option, None, Some, MatchOption}
+use Rattle.tables.specs.Held.{is_end, end_slot, Ended}
 
 module _ (x : ℕ) where
   not_ends : (p : Pair) → is_end x p ≡ false → (p.a is x ≡ false) × (p.b is x ≡ false)
@@ -18,7 +19,8 @@ module _ (x : ℕ) where
   outside [] h z e = e
   outside (p ∷ ps) h z e = go (split (eqb (label ps z) (label ps p.b))) (neither (is_end x p) _ h) (outside ps)
     where
-      go : (eqb (label ps z) (label ps p.b) ≡ true) ⊎ (eqb (label ps z) (label ps p.b) ≡ false) → (is_end x p ≡ false) × (any (is_end x) ps ≡ false) → (any (is_end x) ps ≡ false → (y : ℕ) → label ps y ≡ x → y ≡ x) → z ≡ x
+      go : (eqb (label ps z) (label ps p.b) ≡ true) ⊎ (eqb (label ps z) (label ps p.b) ≡ false) → (is_end x p ≡ false)
+          × (any (is_end x) ps ≡ false) → (any (is_end x) ps ≡ false → (y : ℕ) → label ps y ≡ x → y ≡ x) → z ≡ x
       go (inl f) n rec = absurd (eqb-false p.a x (not_ends p n.0).0 (rec n.1 p.a (rw f at e)))
       go (inr f) n rec = rec n.1 z (rw f at e)
 
@@ -26,8 +28,10 @@ module _ (x : ℕ) where
   own_label [] h = refl
   own_label (p ∷ ps) h = go (split (eqb (label ps x) (label ps p.b))) (neither (is_end x p) _ h) (own_label ps)
     where
-      go : (eqb (label ps x) (label ps p.b) ≡ true) ⊎ (eqb (label ps x) (label ps p.b) ≡ false) → (is_end x p ≡ false) × (any (is_end x) ps ≡ false) → (any (is_end x) ps ≡ false → label ps x ≡ x) → label (p ∷ ps) x ≡ x
-      go (inl f) n rec = absurd (eqb-false p.b x (not_ends p n.0).1 (outside ps n.1 p.b (sym (eqb-true (label ps x) (label ps p.b) f) ∙ rec n.1)))
+      go : (eqb (label ps x) (label ps p.b) ≡ true) ⊎ (eqb (label ps x) (label ps p.b) ≡ false) → (is_end x p ≡ false)
+          × (any (is_end x) ps ≡ false) → (any (is_end x) ps ≡ false → label ps x ≡ x) → label (p ∷ ps) x ≡ x
+      go (inl f) n rec = absurd
+          (eqb-false p.b x (not_ends p n.0).1 (outside ps n.1 p.b (sym (eqb-true (label ps x) (label ps p.b) f) ∙ rec n.1)))
       go (inr f) n rec = rw f (rec n.1)
 
 pub linked_self : (ps : List Pair) (x y : ℕ) → x ≡ y → linked ps x y ≡ true
@@ -65,10 +69,14 @@ no_second_end ps x y n f = go (split (linked ps x y))
 -- THE PAIRS IN THEIR SLOTS
 module _ (t : List ℕ) (i x : ℕ) where
   -- an end stands in the table
-  at_end : (k j : ℕ) → k < rule_word slots t i 4 → j < 2 → end_slot t i (2 * k + j) ≡ x → Memᴰ x (map (end_slot t i) (upto (2 * rule_word slots t i 4)))
-  at_end k j h l e = subst (λ z. Memᴰ z (map (end_slot t i) (upto (2 * rule_word slots t i 4)))) e (mem_map (end_slot t i) (2 * k + j) (upto (2 * rule_word slots t i 4)) (mem_from 0 (2 * rule_word slots t i 4) (2 * k + j) (omega arith) (omega arith)))
+  at_end : (k j : ℕ) → k < rule_word slots t i 4 → j < 2 → end_slot t i (2 * k + j) ≡ x
+      → Memᴰ x (map (end_slot t i) (upto (2 * rule_word slots t i 4)))
+  at_end k j h l e = subst (λ z. Memᴰ z (map (end_slot t i) (upto (2 * rule_word slots t i 4)))) e
+      (mem_map (end_slot t i) (2 * k + j) (upto (2 * rule_word slots t i 4))
+      (mem_from 0 (2 * rule_word slots t i 4) (2 * k + j) (omega arith) (omega arith)))
 
-  pub end_stands : any (is_end x) (rule_at slots t i).pairs ≡ true → Memᴰ x (map (end_slot t i) (upto (2 * rule_word slots t i 4)))
+  pub end_stands : any (is_end x) (rule_at slots t i).pairs ≡ true
+      → Memᴰ x (map (end_slot t i) (upto (2 * rule_word slots t i 4)))
   unfolding rule_at is_end pair_at
   end_stands e =
       let r = any_at (is_end x) (map (pair_at slots t i) (upto (rule_word slots t i 4))) e in
@@ -76,34 +84,33 @@ module _ (t : List ℕ) (i x : ℕ) where
       let b = from_bounds 0 (rule_word slots t i 4) q.0 q.1 in
       go q.0 (omega arith) (sym (ap (is_end x) q.2) ∙ r.2)
     where
-      go : (k : ℕ) → k < rule_word slots t i 4 → is_end x (pair_at slots t i k) ≡ true → Memᴰ x (map (end_slot t i) (upto (2 * rule_word slots t i 4)))
+      go : (k : ℕ) → k < rule_word slots t i 4 → is_end x (pair_at slots t i k) ≡ true
+          → Memᴰ x (map (end_slot t i) (upto (2 * rule_word slots t i 4)))
       go k h f = either (one_of (eqb (rule_word slots t i (22 + 2 * k)) x) _ f)
         where
-          either : (eqb (rule_word slots t i (22 + 2 * k)) x ≡ true) ⊎ (eqb (rule_word slots t i (22 + 2 * k + 1)) x ≡ true) → Memᴰ x (map (end_slot t i) (upto (2 * rule_word slots t i 4)))
-          either (inl g) = at_end k 0 h (omega arith) (ap (λ j. rule_word slots t i j) (omega arith) ∙ eqb-true (rule_word slots t i (22 + 2 * k)) x g)
-          either (inr g) = at_end k 1 h (omega arith) (ap (λ j. rule_word slots t i j) (omega arith) ∙ eqb-true (rule_word slots t i (22 + 2 * k + 1)) x g)
+          either : (eqb (rule_word slots t i (22 + 2 * k)) x ≡ true) ⊎ (eqb (rule_word slots t i (22 + 2 * k + 1)) x ≡ true)
+              → Memᴰ x (map (end_slot t i) (upto (2 * rule_word slots t i 4)))
+          either (inl g) = at_end k 0 h (omega arith)
+              (ap (λ j. rule_word slots t i j) (omega arith) ∙ eqb-true (rule_word slots t i (22 + 2 * k)) x g)
+          either (inr g) = at_end k 1 h (omega arith)
+              (ap (λ j. rule_word slots t i j) (omega arith) ∙ eqb-true (rule_word slots t i (22 + 2 * k + 1)) x g)
 
--- THE SEARCH for x among the ends: none of the first k is x
-pub record Passed (t : List ℕ) (i x k : ℕ) : Type 0 where
-  pub none : (j : ℕ) → j < k → end_slot t i j ≡ x → ⊥
-
-module _ {t : List ℕ} {i x : ℕ} where
-  pub pass_starts : Passed t i x 0
-  pass_starts = record { none = λ j h. absurd (omega arith) }
-
-  pub pass_turn : {k e : ℕ} → Passed t i x k → e ≡ end_slot t i k → (e ≡ x → ⊥) → Passed t i x (k + 1)
-  pass_turn {k} p f n = record { none = λ j h. go j h (split (eqb j k)) }
+-- THE SEARCH for x among the n ends
+module _ (t : List ℕ) (i x : ℕ) {n : ℕ} (e : n ≡ 2 * rule_word slots t i 4) where
+  no_end : ((j : ℕ) → 0 ≤ j → j < n → end_slot t i j ≡ x → ⊥) → any (is_end x) (rule_at slots t i).pairs ≡ false
+  no_end none = go (split (any (is_end x) (rule_at slots t i).pairs))
     where
-      go : (j : ℕ) → j < k + 1 → (eqb j k ≡ true) ⊎ (eqb j k ≡ false) → end_slot t i j ≡ x → ⊥
-      go j h (inl y) z = n (f ∙ ap (end_slot t i) (sym (eqb-true j k y)) ∙ z)
-      go j h (inr y) z = let s = eqb-false j k y in p.none j (omega arith) z
-
-  pub no_end : {k m : ℕ} → Passed t i x k → m ≡ rule_word slots t i 4 → 2 * m ≤ k → any (is_end x) (rule_at slots t i).pairs ≡ false
-  no_end {k} {m} p e h = go (split (any (is_end x) (rule_at slots t i).pairs))
-    where
-      go : (any (is_end x) (rule_at slots t i).pairs ≡ true) ⊎ (any (is_end x) (rule_at slots t i).pairs ≡ false) → any (is_end x) (rule_at slots t i).pairs ≡ false
+      go : (any (is_end x) (rule_at slots t i).pairs ≡ true) ⊎ (any (is_end x) (rule_at slots t i).pairs ≡ false)
+          → any (is_end x) (rule_at slots t i).pairs ≡ false
       go (inl f) =
           let q = mem_map_of (end_slot t i) x (upto (2 * rule_word slots t i 4)) (end_stands t i x f) in
           let b = from_bounds 0 (2 * rule_word slots t i 4) q.0 q.1 in
-          absurd (p.none q.0 (omega arith) (sym q.2))
+          absurd (none q.0 (omega arith) (omega arith) (sym q.2))
       go (inr f) = f
+
+  pub end_found : n ≤ 8 → (r : Option ℕ)
+      → MatchOption r ((j : ℕ) → 0 ≤ j → j < n → end_slot t i j ≡ x → ⊥)
+      (λ k. (0 ≤ k) × (k < n) × (end_slot t i k ≡ x) × ((j : ℕ) → 0 ≤ j → j < k → end_slot t i j ≡ x → ⊥))
+      → Ended t i x r
+  end_found h None m = no_end m
+  end_found h (Some k) m = (omega (arith, m.1), m.2)

@@ -68,14 +68,6 @@ module _ (t : List ℕ) (s : ℕ) where
 
 -- RULES
 module _ (t : List ℕ) (i : ℕ) where
-  pub rule_result : (rule_at slots t i).result ≡ rule_word slots t i 2
-  unfolding rule_at
-  rule_result = refl
-
-  pub rule_pos : (rule_at slots t i).pos ≡ rule_word slots t i 1
-  unfolding rule_at
-  rule_pos = refl
-
   pub constraint_count : length (rule_at slots t i).constraints ≡ rule_word slots t i 3
   unfolding rule_at
   constraint_count = length_map_upto (constraint_at slots t i) (rule_word slots t i 3)

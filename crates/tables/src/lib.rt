@@ -1,45 +1,99 @@
 // A book's tables of words, read field by field: 6 words a site, 34 a rule.
 #![tactic(auto)]
 
-ghost use Rattle.std.specs.Prelude.{◌≡◌, ◌+◌, ◌*◌, ◌<◌, ◌≤◌, map, length, slice_index};
-ghost use Rattle.definition.specs.Lists.{same_number};
+ghost use Rattle.std.specs.Prelude.{◌≡◌, ◌+◌, ◌*◌, ◌<◌, ◌≤◌, map, length, take, drop, slice_index};
 ghost use Rattle.definition.specs.Book.{slots, constrains, pattern_on, linked};
-ghost use Rattle.definition.specs.Tables.{signed, site_words, site_word, site_at, rule_words, rule_word, rule_at};
+ghost use Rattle.definition.specs.Tables.{signed, site_words, site_word, site_at, rule_words, rule_word, constraint_at, rule_at};
 ghost use Rattle.definition.specs.Scope.{never_listed};
 ghost use Rattle.definition.specs.Choice.{has};
 ghost use Rattle.laws.specs.Loops.{relabel};
-ghost use Rattle.tables.specs.Held.{Held, Sited, biased, rank_of, shown, test_of, Labels, Ended};
+ghost use Rattle.tables.specs.Held.{Held, Sited, biased, rank_of, shown, test_of, site_slot, end_slot, FirstOn, Labels, Ended};
 
 pub const SITE_WORDS: usize = 6;
 
 pub const RULE_WORDS: usize = 34;
 
-// A pattern's words.
-#[derive(Clone, Copy)]
-pub struct Shape {
+// The words of a site record: its kind, how many sources it has, and four sources.
+pub const KIND_WORD: usize = 0;
+
+pub const SOURCE_COUNT_WORD: usize = 1;
+
+pub const SOURCES_WORD: usize = 2;
+
+// A kind 7 site has one source, and behind it:
+pub const PATTERN_WORD: usize = 3;
+
+pub const POSITION_WORD: usize = 4;
+
+pub const NUMBER_WORD: usize = 5;
+
+// The words of a rule record: its fields, its counts, and the first word of each kind of slot.
+pub const PRIORITY_WORD: usize = 0;
+
+pub const POS_WORD: usize = 1;
+
+pub const RESULT_WORD: usize = 2;
+
+pub const CONSTRAINT_COUNT_WORD: usize = 3;
+
+pub const PAIR_COUNT_WORD: usize = 4;
+
+pub const IMPURE_COUNT_WORD: usize = 5;
+
+pub const CONSTRAINTS_WORD: usize = 6;
+
+pub const PAIRS_WORD: usize = 22;
+
+pub const IMPURES_WORD: usize = 30;
+
+// A constraint's words: site, pattern kind, field count, number.
+pub const CONSTRAINT_WORDS: usize = 4;
+
+// What a constraint asks of its site. The derived order is the order of arms: kind, then signed number, then field count.
+// `kind` is no enum: `pattern_on` promises the definition's pattern of every rule that may be read, and its word may be any.
+#[derive(Clone, Copy, Debug, PartialEq, Eq, PartialOrd, Ord)]
+pub struct Pattern {
     pub kind: u32,
+    pub number: i32,
     pub fields: u32,
-    pub number: u32,
 }
 
-pub fn wide(x: u32) -> usize
-    ensures { result ≡ x }
-{
-    x as usize
+// A test: a constraint on a site, or a pair of sites in one class, the smaller first.
+#[derive(Clone, Copy, Debug, PartialEq, Eq)]
+pub enum Test {
+    On(usize),
+    Same(usize, usize),
+}
+
+// A site record of a book's table that may be read: it stands in the table, and its count is that of a record.
+#[derive(Clone, Copy)]
+pub struct Site<'a> {
+    pub words: &'a [u32],
+    pub id: usize,
+    pub ghost sited: { Sited words.now id },
+}
+
+// A rule record of a book's table that may be read: it stands in the table, and its counts are those of a record.
+#[derive(Clone, Copy)]
+pub struct Rule<'a> {
+    pub words: &'a [u32],
+    pub id: usize,
+    pub ghost held: { Held words.now id },
 }
 
 // A signed number's word with the sign's bit turned, so that the order of words is the order of numbers.
-pub fn turned(w: u32) -> u32
+fn turned(w: u32) -> u32
     ensures { result ≡ biased w }
 {
-    std::num::wrapping_add_u32(w, 0x8000_0000)
+    w.wrapping_add(0x8000_0000)
 }
 
-// Whether two words are one signed number.
-pub fn same_number(a: u32, b: u32) -> bool
-    ensures { result ≡ same_number (signed a) (signed b) }
+// Internal: the words of site `s`, whether or not its count fits.
+pub fn site_record(sites: &[u32], s: usize) -> &[u32; SITE_WORDS]
+    requires { site_words * s + site_words ≤ length sites.now }
+    ensures { result.now ≡ take site_words (drop (site_words * s) sites.now) }
 {
-    a == b
+    sites[SITE_WORDS * s..].first_chunk::<SITE_WORDS>().unwrap()
 }
 
 // Internal: word `k` of site `s`.
@@ -50,67 +104,12 @@ pub fn site_word(sites: &[u32], s: usize, k: usize) -> u32
     sites[SITE_WORDS * s + k]
 }
 
-// Internal: a site's kind, 0 to 7.
-pub fn site_kind(sites: &[u32], s: usize) -> u32
-    requires { Sited sites.now s }
-    ensures { result ≡ (site_at sites.now s).kind }
+// Internal: the words of rule `i`, whether or not its counts fit.
+pub fn rule_record(rules: &[u32], i: usize) -> &[u32; RULE_WORDS]
+    requires { rule_words slots * i + rule_words slots ≤ length rules.now }
+    ensures { result.now ≡ take (rule_words slots) (drop (rule_words slots * i) rules.now) }
 {
-    site_word(sites, s, 0)
-}
-
-// Internal: how many sources a site has.
-pub fn source_count(sites: &[u32], s: usize) -> usize
-    requires { Sited sites.now s }
-    ensures { (result ≡ length (site_at sites.now s).sources) × (result ≤ 4) }
-{
-    wide(site_word(sites, s, 1))
-}
-
-// Internal: source `k` of a site.
-pub fn source(sites: &[u32], s: usize, k: usize) -> usize
-    requires { Sited sites.now s × (k < length (site_at sites.now s).sources) }
-    ensures { result ≡ slice_index (site_at sites.now s).sources k }
-{
-    wide(site_word(sites, s, 2 + k))
-}
-
-// Internal: the pattern kind of a kind 7 site.
-pub fn bound_kind(sites: &[u32], s: usize) -> u32
-    requires { Sited sites.now s × ((site_at sites.now s).kind ≡ 7) }
-    ensures { result ≡ (site_at sites.now s).pattern }
-{
-    site_word(sites, s, 3)
-}
-
-// Internal: the position of a kind 7 site.
-pub fn bound_position(sites: &[u32], s: usize) -> u32
-    requires { Sited sites.now s × ((site_at sites.now s).kind ≡ 7) }
-    ensures { result ≡ (site_at sites.now s).position }
-{
-    site_word(sites, s, 4)
-}
-
-// Internal: the word of a kind 7 site's number.
-pub fn bound_number(sites: &[u32], s: usize) -> u32
-    requires { Sited sites.now s × ((site_at sites.now s).kind ≡ 7) }
-    ensures { signed result ≡ (site_at sites.now s).number }
-{
-    site_word(sites, s, 5)
-}
-
-// Internal: whether a site never stands in a let list.
-pub fn never_listed(sites: &[u32], s: usize) -> bool
-    requires { Sited sites.now s }
-    ensures { result ≡ never_listed (site_at sites.now s) }
-{
-    let kind = site_word(sites, s, 0);
-    if kind < 4 {
-        return true;
-    }
-    if kind < 6 {
-        return site_word(sites, s, 1) == 0;
-    }
-    false
+    rules[RULE_WORDS * i..].first_chunk::<RULE_WORDS>().unwrap()
 }
 
 // Internal: word `k` of rule `i`.
@@ -126,180 +125,271 @@ pub fn rule_id(rules: &[u32], i: usize, k: usize) -> usize
     requires { (rule_words slots * i + rule_words slots ≤ length rules.now) × (k < rule_words slots) }
     ensures { result ≡ rule_word slots rules.now i k }
 {
-    wide(rule_word(rules, i, k))
+    rule_word(rules, i, k) as usize
 }
 
-// Internal: a rule's priority, as a word whose order is the signed number's.
-pub fn priority(rules: &[u32], i: usize) -> u32
-    requires { Held rules.now i }
-    ensures { result ≡ rank_of rules.now i }
-{
-    turned(rule_word(rules, i, 0))
-}
-
-// Internal: a rule's position in its source text.
-pub fn pos(rules: &[u32], i: usize) -> u32
-    requires { Held rules.now i }
-    ensures { result ≡ (rule_at slots rules.now i).pos }
-{
-    rule_word(rules, i, 1)
-}
-
-// Internal: the site that a rule returns.
-pub fn result(rules: &[u32], i: usize) -> u32
-    requires { Held rules.now i }
-    ensures { result ≡ (rule_at slots rules.now i).result }
-{
-    rule_word(rules, i, 2)
-}
-
-// Internal: how many impure sites a rule has.
-pub fn impure_count(rules: &[u32], i: usize) -> usize
-    requires { Held rules.now i }
-    ensures { (result ≡ length (rule_at slots rules.now i).impure) × ((result ≡ rule_word slots rules.now i 5) × (result ≤ 4)) }
-{
-    rule_id(rules, i, 5)
-}
-
-// Internal: impure site `k` of a rule.
-pub fn impure(rules: &[u32], i: usize, k: usize) -> usize
-    requires { Held rules.now i × (k < length (rule_at slots rules.now i).impure) }
-    ensures { result ≡ slice_index (rule_at slots rules.now i).impure k }
-{
-    rule_id(rules, i, 30 + k)
-}
-
-// Internal: whether a rule constrains site `s`.
-pub fn rule_constrains(rules: &[u32], i: usize, s: usize) -> bool
-    requires { Held rules.now i }
-    ensures { result ≡ constrains (rule_at slots rules.now i) s }
-{
-    let n = rule_id(rules, i, 3);
-    let mut k: usize = 0;
-    while k < n {
-        if rule_id(rules, i, 6 + 4 * k) == s {
-            return true;
-        }
-        k += 1;
-    }
-    false
-}
-
-// Internal: the pattern that a rule asks of site `s`, which it constrains.
-pub fn pattern_on(rules: &[u32], i: usize, s: usize) -> Shape
-    requires { Held rules.now i }
-    ensures { shown result ≡ pattern_on (rule_at slots rules.now i) s }
-{
-    let n = rule_id(rules, i, 3);
-    let mut k: usize = 0;
-    while k < n {
-        let at = 6 + 4 * k;
-        if rule_id(rules, i, at) == s {
-            return Shape {
-                kind: rule_word(rules, i, at + 1),
-                fields: rule_word(rules, i, at + 2),
-                number: rule_word(rules, i, at + 3),
-            };
-        }
-        k += 1;
-    }
-    Shape {
-        kind: 0,
-        fields: 0,
-        number: 0,
-    }
-}
-
-// The place of site `x` among the ends of a rule's pairs, or 8 if it is none of them.
-fn end_of(rules: &[u32], i: usize, x: usize) -> usize
-    requires { Held rules.now i }
-    ensures { Ended rules.now i x result }
-{
-    let n = 2 * rule_id(rules, i, 4);
-    let mut k: usize = 0;
-    while k < n {
-        if rule_id(rules, i, 22 + k) == x {
-            return k;
-        }
-        k += 1;
-    }
-    8
-}
-
-// The ends of a rule's pairs, each of which is its own label at first.
-fn own_labels(rules: &[u32], i: usize) -> [u32; 8]
-    requires { Held rules.now i }
-    ensures { Labels rules.now i 0 result }
-{
-    let mut l = [0u32; 8];
-    let mut k: usize = 0;
-    while k < 8 {
-        l[k] = rule_word(rules, i, 22 + k);
-        k += 1;
-    }
-    l
-}
-
-fn renamed(v: u32, from: u32, to: u32) -> u32
-    ensures { result ≡ relabel from to v }
-{
-    if v == from { to } else { v }
-}
-
+// What has the label `from` gets the label `to`.
 fn relabelled(old: [u32; 8], from: u32, to: u32) -> [u32; 8]
     ensures { result ≡ map (relabel from to) old }
 {
-    let mut l = old;
-    let mut k: usize = 0;
-    while k < 8 {
-        l[k] = renamed(l[k], from, to);
-        k += 1;
-    }
-    l
+    old.map(|v| if v == from { to } else { v })
 }
 
-// The labels of the ends after all pairs are joined, the last one first.
-fn labels(rules: &[u32], i: usize) -> [u32; 8]
-    requires { Held rules.now i }
-    ensures { Labels rules.now i (rule_word slots rules.now i 4) result }
-{
-    let n = rule_id(rules, i, 4);
-    let mut l = own_labels(rules, i);
-    let mut k: usize = n;
-    while 0 < k {
-        k -= 1;
-        l = relabelled(l, l[2 * k + 1], l[2 * k]);
+impl<'a> Site<'a> {
+    // Word `k` of the record.
+    fn word(&self, k: usize) -> u32
+        requires { k < site_words }
+        ensures { result ≡ site_word self.now.words.now self.now.id k }
+    {
+        site_word(self.words, self.id, k)
     }
-    l
+
+    // Internal: the site's kind, 0 to 7.
+    #[tactic(auto, unfolding(definition::specs::Tables::site_at))]
+    pub fn kind(&self) -> u32
+        ensures { result ≡ (site_at self.now.words.now self.now.id).kind }
+    {
+        self.word(KIND_WORD)
+    }
+
+    // Internal: how many sources the site has.
+    #[tactic(auto, using(crate::proofs::Fields::source_count))]
+    pub fn source_count(&self) -> usize
+        ensures { (result ≡ length (site_at self.now.words.now self.now.id).sources) × (result ≤ 4) }
+    {
+        self.word(SOURCE_COUNT_WORD) as usize
+    }
+
+    // Internal: source `k` of the site.
+    #[tactic(auto, using(crate::proofs::Fields::source_count, crate::proofs::Fields::source_is))]
+    pub fn source(&self, k: usize) -> usize
+        requires { k < length (site_at self.now.words.now self.now.id).sources }
+        ensures { result ≡ slice_index (site_at self.now.words.now self.now.id).sources k }
+    {
+        self.word(SOURCES_WORD + k) as usize
+    }
+
+    // Internal: the pattern kind of a kind 7 site.
+    #[tactic(auto, using(crate::proofs::Fields::bound_kind))]
+    pub fn bound_kind(&self) -> u32
+        requires { (site_at self.now.words.now self.now.id).kind ≡ 7 }
+        ensures { result ≡ (site_at self.now.words.now self.now.id).pattern }
+    {
+        self.word(PATTERN_WORD)
+    }
+
+    // Internal: the position of a kind 7 site.
+    #[tactic(auto, using(crate::proofs::Fields::bound_position))]
+    pub fn bound_position(&self) -> u32
+        requires { (site_at self.now.words.now self.now.id).kind ≡ 7 }
+        ensures { result ≡ (site_at self.now.words.now self.now.id).position }
+    {
+        self.word(POSITION_WORD)
+    }
+
+    // Internal: the word of a kind 7 site's number.
+    #[tactic(auto, using(crate::proofs::Fields::bound_number))]
+    pub fn bound_number(&self) -> u32
+        requires { (site_at self.now.words.now self.now.id).kind ≡ 7 }
+        ensures { signed result ≡ (site_at self.now.words.now self.now.id).number }
+    {
+        self.word(NUMBER_WORD)
+    }
+
+    // Internal: whether the site never stands in a let list.
+    pub fn never_listed(&self) -> bool
+        ensures { result ≡ never_listed (site_at self.now.words.now self.now.id) }
+    {
+        let kind = self.word(KIND_WORD);
+        kind < 4 || kind < 6 && self.word(SOURCE_COUNT_WORD) == 0
+    }
 }
 
-// Internal: whether sites `x` and `y` are in one class of a rule.
-pub fn rule_links(rules: &[u32], i: usize, x: usize, y: usize) -> bool
-    requires { Held rules.now i }
-    ensures { result ≡ linked (rule_at slots rules.now i).pairs x y }
-{
-    if x == y {
-        return true;
+impl<'a> Rule<'a> {
+    // Word `k` of the record.
+    fn word(&self, k: usize) -> u32
+        requires { k < rule_words slots }
+        ensures { result ≡ rule_word slots self.now.words.now self.now.id k }
+    {
+        rule_word(self.words, self.id, k)
     }
-    let j = end_of(rules, i, x);
-    if 8 <= j {
-        return false;
-    }
-    let k = end_of(rules, i, y);
-    if 8 <= k {
-        return false;
-    }
-    let l = labels(rules, i);
-    l[j] == l[k]
-}
 
-// Internal: whether a rule has a test: a constraint on `a` where `b` is 0, and else the pair.
-pub fn rule_has(rules: &[u32], i: usize, a: usize, b: usize) -> bool
-    requires { Held rules.now i }
-    ensures { result ≡ has (rule_at slots rules.now i) (test_of a b) }
-{
-    if b == 0 {
-        return rule_constrains(rules, i, a);
+    // Word `k` of the record, as an id or a count.
+    fn id_at(&self, k: usize) -> usize
+        requires { k < rule_words slots }
+        ensures { result ≡ rule_word slots self.now.words.now self.now.id k }
+    {
+        rule_id(self.words, self.id, k)
     }
-    rule_links(rules, i, a, b)
+
+    // Internal: the rule's priority, as a word whose order is the signed number's.
+    pub fn priority(&self) -> u32
+        ensures { result ≡ rank_of self.now.words.now self.now.id }
+    {
+        turned(self.word(PRIORITY_WORD))
+    }
+
+    // Internal: the rule's position in its source text.
+    #[tactic(auto, unfolding(definition::specs::Tables::rule_at))]
+    pub fn pos(&self) -> u32
+        ensures { result ≡ (rule_at slots self.now.words.now self.now.id).pos }
+    {
+        self.word(POS_WORD)
+    }
+
+    // Internal: the site that the rule returns.
+    #[tactic(auto, unfolding(definition::specs::Tables::rule_at))]
+    pub fn result(&self) -> u32
+        ensures { result ≡ (rule_at slots self.now.words.now self.now.id).result }
+    {
+        self.word(RESULT_WORD)
+    }
+
+    // Internal: how many impure sites the rule has.
+    #[tactic(auto, using(crate::proofs::Fields::impure_count))]
+    pub fn impure_count(&self) -> usize
+        ensures { (result ≡ length (rule_at slots self.now.words.now self.now.id).impure)
+            × ((result ≡ rule_word slots self.now.words.now self.now.id 5) × (result ≤ 4)) }
+    {
+        self.id_at(IMPURE_COUNT_WORD)
+    }
+
+    // Internal: impure site `k` of the rule.
+    #[tactic(auto, using(crate::proofs::Fields::impure_count, crate::proofs::Fields::impure_is))]
+    pub fn impure(&self, k: usize) -> usize
+        requires { k < length (rule_at slots self.now.words.now self.now.id).impure }
+        ensures { result ≡ slice_index (rule_at slots self.now.words.now self.now.id).impure k }
+    {
+        self.id_at(IMPURES_WORD + k)
+    }
+
+    // Internal: how many constraints the rule has.
+    pub fn constraint_count(&self) -> usize
+        ensures { (result ≡ rule_word slots self.now.words.now self.now.id 3) × (result ≤ 4) }
+    {
+        self.id_at(CONSTRAINT_COUNT_WORD)
+    }
+
+    // Internal: how many ends the rule's pairs have, two each.
+    pub fn end_count(&self) -> usize
+        ensures { (result ≡ 2 * rule_word slots self.now.words.now self.now.id 4) × (result ≤ 8) }
+    {
+        2 * self.id_at(PAIR_COUNT_WORD)
+    }
+
+    // Internal: the site of constraint `k` of the rule.
+    pub fn constraint_site(&self, k: usize) -> usize
+        requires { k < slots }
+        ensures { result ≡ site_slot self.now.words.now self.now.id k }
+    {
+        self.id_at(CONSTRAINTS_WORD + CONSTRAINT_WORDS * k)
+    }
+
+    // Internal: whether the rule constrains site `s`.
+    pub fn constrains(&self, s: usize) -> bool
+        ensures { result ≡ constrains (rule_at slots self.now.words.now self.now.id) s }
+    {
+        let n = self.constraint_count();
+        (0..n).any(|k| self.constraint_site(k) == s)
+    }
+
+    // Internal: the site at end `k` of the rule's pairs, whose first and second sites stand in a row.
+    pub fn end_site(&self, k: usize) -> usize
+        requires { k < 8 }
+        ensures { result ≡ end_slot self.now.words.now self.now.id k }
+    {
+        self.id_at(PAIRS_WORD + k)
+    }
+
+    // The place of the first constraint on site `s`, if there is one.
+    fn constraint_on(&self, s: usize) -> Option<usize>
+        ensures { FirstOn self.now.words.now self.now.id s result }
+    {
+        let n = self.constraint_count();
+        (0..n).find(|k| self.constraint_site(*k) == s)
+    }
+
+    // The pattern of constraint `k`.
+    fn constraint_pattern(&self, k: usize) -> Pattern
+        requires { k < slots }
+        ensures { shown result ≡ (constraint_at slots self.now.words.now self.now.id k).pattern }
+    {
+        let at = CONSTRAINTS_WORD + CONSTRAINT_WORDS * k;
+        Pattern {
+            kind: self.word(at + 1),
+            number: self.word(at + 3).cast_signed(),
+            fields: self.word(at + 2),
+        }
+    }
+
+    // Internal: the pattern that the rule asks of site `s`, which it constrains.
+    pub fn pattern_on(&self, s: usize) -> Pattern
+        ensures { shown result ≡ pattern_on (rule_at slots self.now.words.now self.now.id) s }
+    {
+        match self.constraint_on(s) {
+            Some(k) => self.constraint_pattern(k),
+            None => Pattern {
+                kind: 0,
+                number: 0,
+                fields: 0,
+            },
+        }
+    }
+
+    // The place of site `x` among the ends of the rule's pairs, if it is one of them.
+    fn end_of(&self, x: usize) -> Option<usize>
+        ensures { Ended self.now.words.now self.now.id x result }
+    {
+        let n = self.end_count();
+        (0..n).find(|k| self.end_site(*k) == x)
+    }
+
+    // The ends of the rule's pairs, each of which is its own label at first.
+    fn own_labels(&self) -> [u32; 8]
+        ensures { Labels self.now.words.now self.now.id 0 result }
+    {
+        let at = RULE_WORDS * self.id + PAIRS_WORD;
+        let mut l = [0u32; 8];
+        l.copy_from_slice(&self.words[at..at + 8]);
+        l
+    }
+
+    // The labels of the ends after all pairs are joined, the last one first.
+    fn labels(&self) -> [u32; 8]
+        ensures { Labels self.now.words.now self.now.id (rule_word slots self.now.words.now self.now.id 4) result }
+    {
+        let mut l = self.own_labels();
+        let n = self.id_at(PAIR_COUNT_WORD);
+        for k in (0..n).rev() {
+            l = relabelled(l, l[2 * k + 1], l[2 * k]);
+        }
+        l
+    }
+
+    // Internal: whether sites `x` and `y` are in one class of the rule.
+    pub fn links(&self, x: usize, y: usize) -> bool
+        ensures { result ≡ linked (rule_at slots self.now.words.now self.now.id).pairs x y }
+    {
+        if x == y {
+            return true;
+        }
+        let Some(j) = self.end_of(x) else {
+            return false;
+        };
+        let Some(k) = self.end_of(y) else {
+            return false;
+        };
+        let l = self.labels();
+        l[j] == l[k]
+    }
+
+    // Internal: whether the rule has a test.
+    pub fn has(&self, test: Test) -> bool
+        ensures { result ≡ has (rule_at slots self.now.words.now self.now.id) (test_of test) }
+    {
+        match test {
+            Test::On(s) => self.constrains(s),
+            Test::Same(x, y) => self.links(x, y),
+        }
+    }
 }

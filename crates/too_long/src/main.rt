@@ -1,4 +1,4 @@
-// The planner's program once more, for a standard input of 65,537 bytes.
+// The planner's program once more: a program crate is run on one standard input, and this one's has 65,537 bytes.
 #![tactic(auto)]
 
 use std::io;

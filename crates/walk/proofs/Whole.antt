@@ -1,27 +1,38 @@
--- The public call, from what `block` tells of the words.
-use mathlib.Core.Path.{◌≡◌, sym, ap, ◌∙◌}
+-- The public call, from what `read` tells of the words.
+use mathlib.Core.Path.{◌≡◌, refl, ap, ◌∙◌}
+use mathlib.Core.Bool.{true, false}
 use mathlib.Core.List.{List}
-use mathlib.Core.Option.{none}
-use Prim.Native.Nat.{ℕ, ◌<◌, ◌≤◌}
-use lib.Dec.{leb}
+use mathlib.Core.Option.{Option, none, some}
+use Prim.Native.Nat.{ℕ}
 use lib.IntN.{ℤ}
 use lib.ListN.{length}
-use borrow.Author.Tests.{lt-leb, le-leb, eq-eqb, ne_eqb}
-use Rattle.definition.specs.Walk.{walk, sites_in}
-use Rattle.definition.specs.Read.{read_block}
+use borrow.Author.Tests.{eq-eqb, ne_eqb}
+use Rattle.std.specs.Prelude as rust
+use Rattle.std.specs.Borrow.{Bor}
 use Rattle.definition.specs.Accept.{smaller_than}
-use Rattle.definition.specs.Answers.{answered, one_length, covers, walk_read, walked}
-use Rattle.walk.specs.declared.Stop.{Stop}
-use Rattle.walk.specs.declared.Walked.{Walked}
-use Rattle.walk.specs.Ends.{Good, stop_of, told_as, reading}
-use Rattle.walk.proofs.Laws.{above_all}
+use Rattle.definition.specs.Read.{read_block}
+use Rattle.definition.specs.Walk.{Reading, Hit, walk}
+use Rattle.definition.specs.Answers.{refused, answered, one_length, covers, walk_read, walked}
+use Rattle.reading.specs.Acts.{block_after}
+use Rattle.reading.specs.Ends.{Ends}
+use Rattle.walk.specs.declared.Walker.{Walker}
+use Rattle.walk.specs.Walks.{acts, reading, stop_of}
+use Rattle.walk.proofs.Folds.{later, steps_told}
+
+stop_later : (o : Option Hit) → stop_of (later rust.None o) ≡ o
+stop_later none = refl
+stop_later (some h) = refl
+
+-- before any part of the tree
+abbrev pub fresh : Reading → Walker
+fresh d = record { reading = d; known = true; stop = rust.None; here = true }
 
 module _ (ws k : List ℕ) (z : List ℤ) (i : List ℕ) where
-  pub differ : (length k ≡ length z → ⊥) → Walked.Refused 10 ≡ told_as (walked ws (reading k z i))
+  pub differ : (length k ≡ length z → ⊥) → refused 10 ≡ walked ws (reading k z i)
   unfolding walked one_length
   differ e = rw (ne_eqb (length k) (length z) e)
 
-  pub differ_ids : length k ≡ length z → (length k ≡ length i → ⊥) → Walked.Refused 10 ≡ told_as (walked ws (reading k z i))
+  pub differ_ids : length k ≡ length z → (length k ≡ length i → ⊥) → refused 10 ≡ walked ws (reading k z i)
   unfolding walked one_length
   differ_ids e f = rw (eq-eqb (length k) (length z) e, ne_eqb (length k) (length i) f)
 
@@ -30,16 +41,20 @@ module _ (ws k : List ℕ) (z : List ℤ) (i : List ℕ) where
     unfolding walked one_length
     read = rw (eq-eqb (length k) (length z) e, eq-eqb (length k) (length i) f)
 
-    pub no_tree : read_block 9 ws ≡ none → Walked.Refused 11 ≡ told_as (walked ws (reading k z i))
-    no_tree q = rw (read, q)
+    module _ {w : Walker} where
+      pub no_tree : Ends (block_after acts (fresh (reading k z i))) (read_block 9 ws) rust.None w → refused 11 ≡ walked ws (reading k z i)
+      no_tree g = rw (read, g.is)
 
-    module _ {n t : ℕ} {h : Stop} (g : Good sites_in (walk (reading k z i)) (read_block 9 ws) ws n t h) where
-      named : covers (reading k z i) g.thing ≡ leb t (length k)
-      unfolding covers smaller_than
-      named = above_all (sites_in g.thing) (length k) ∙ ap (λ x. leb x (length k)) (sym g.so.top)
+      module _ {rest : Bor (List ℕ)} (g : Ends (block_after acts (fresh (reading k z i))) (read_block 9 ws) (rust.Some rest) w) where
+        known_is : w.known ≡ covers (reading k z i) g.is.0
+        unfolding covers smaller_than
+        known_is = ap (λ (q : Walker). q.known) (g.is.2 ∙ steps_told 1 (fresh (reading k z i)) g.is.0)
 
-      pub lacks : length k < t → Walked.Refused 12 ≡ told_as (walked ws (reading k z i))
-      lacks l = rw (read, g.is, named, lt-leb t (length k) l)
+        stop_is : stop_of w.stop ≡ walk (reading k z i) g.is.0
+        stop_is = ap (λ (q : Walker). stop_of q.stop) (g.is.2 ∙ steps_told 1 (fresh (reading k z i)) g.is.0) ∙ stop_later (walk (reading k z i) g.is.0)
 
-      pub walks : t ≤ length k → told_as (answered (stop_of h)) ≡ told_as (walked ws (reading k z i))
-      walks l = rw (read, g.is, named, le-leb t (length k) l) (ap (λ o. told_as (answered o)) g.so.met)
+        pub lacks : w.known ≡ false → refused 12 ≡ walked ws (reading k z i)
+        lacks l = rw (read, g.is.1, ← known_is, l)
+
+        pub walks : w.known ≡ true → answered (stop_of w.stop) ≡ walked ws (reading k z i)
+        walks l = rw (read, g.is.1, ← known_is, l, stop_is)

@@ -14,20 +14,21 @@ decreases-make_control_flow l = 5 * l.left + 2
 abbrev pub decreases-make_equal : goal.decreases-make_equal
 decreases-make_equal l = 5 * l.left + 1
 
-abbrev pub invariant-make_match-loop-lo : goal.invariant-make_match-loop-lo
-invariant-make_match-loop-lo l = ArmsGoing l.size.sites l.size.rules l.sites l.rules l.left l.s l.scope l.initial.order l.initial.room l.initial.pos l.order l.lo l.arms l.pos l.room
+abbrev pub invariant-make_match-loop-taken : goal.invariant-make_match-loop-taken
+invariant-make_match-loop-taken l = ArmsGoing l.book l.left l.s l.scope l.initial.order l.initial.out l.order l.taken l.arms l.out
 
-abbrev pub decreases-make_match-loop-lo : goal.decreases-make_match-loop-lo
-decreases-make_match-loop-lo l = length l.order - l.lo
+abbrev pub decreases-make_match-loop-taken : goal.decreases-make_match-loop-taken
+decreases-make_match-loop-taken l = length l.order - l.taken
 
 abbrev pub decreases-make_match : goal.decreases-make_match
 decreases-make_match l = 5 * l.left + 1
 
-abbrev pub invariant-make_steps-loop-taken : goal.invariant-make_steps-loop-taken
-invariant-make_steps-loop-taken l = StepsGoing l.size.sites l.size.rules l.sites l.rules l.left l.initial.scope l.initial.order l.initial.room l.initial.at l.scope l.order l.taken l.count l.at l.room
+abbrev pub invariant-make_steps-loop-next : goal.invariant-make_steps-loop-next
+invariant-make_steps-loop-next l =
+    StepsGoing l.book l.left l.initial.scope l.initial.order l.initial.out l.scope l.order l.taken l.count l.out
 
-abbrev pub decreases-make_steps-loop-taken : goal.decreases-make_steps-loop-taken
-decreases-make_steps-loop-taken l = length l.order - l.taken
+abbrev pub decreases-make_steps-loop-next : goal.decreases-make_steps-loop-next
+decreases-make_steps-loop-next l = length l.order - l.taken
 
 abbrev pub decreases-make_steps : goal.decreases-make_steps
 decreases-make_steps l = 5 * l.left + 3

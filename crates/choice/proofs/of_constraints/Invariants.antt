@@ -4,11 +4,9 @@ use Prim.Native.Nat.{◌-◌}
 use Rattle.definition.specs.Lists.{from}
 use Rattle.laws.specs.Greatest.{Climbed}
 use Rattle.tables.specs.Held.{site_slot}
-use Rattle.choice.specs.Worth.{worth_of, match_worth}
+use Rattle.choice.specs.Worth.{worth_in, match_worth}
 use Rattle.choice.proofs.of_constraints.Given as goal
 
 abbrev pub invariant-loop-k : goal.invariant-loop-k
-invariant-loop-k l = Climbed (match_worth (worth_of l.rules l.states l.root l.part)) (λ k. map (site_slot l.rules l.i) (from k (l.n - k))) l.best l.k l.most
-
-abbrev pub decreases-loop-k : goal.decreases-loop-k
-decreases-loop-k l = l.n - l.k
+invariant-loop-k l = Climbed (match_worth (worth_in l.asked))
+    (λ k. map (site_slot l.rule.words.now l.rule.id) (from k (l.n - k))) l.best l.k l.most

@@ -1,20 +1,21 @@
 -- The rules that are not near lack every pair of the rule, so those near decide.
 use mathlib.Core.Path.{ap, ◌∙◌}
 use Prim.Native.Nat.{max}
-use Rattle.choice.proofs.Nearby.{near_front, near_worth, near_parts, no_pairs}
+use Rattle.choice.proofs.Nearby.{near_worth, near_parts, no_pairs}
 use Rattle.choice.proofs.of_near.Goals as goal
 
-pub returns-then-rule_id-eq0 : goal.returns-then-rule_id-eq0
-returns-then-rule_id-eq0 c = no_pairs _ _ _ _ c.rule_id.ensures c.if-rule_id-eq0.true
+pub returns-then-end_count-eq0 : goal.returns-then-end_count-eq0
+returns-then-end_count-eq0 c = no_pairs _ _ _ _ c.end_count.ensures.0 c.if-end_count-eq0.true
 
-pub slice_bounds-of_pairs-end : goal.slice_bounds-of_pairs-end
-slice_bounds-of_pairs-end c = c.sharing-near.ensures.fits
-
-pub of_pairs-requires : goal.of_pairs-requires
-of_pairs-requires c = let p = c.requires in (near_parts _ p.0 (near_front c.sharing-near.ensures), p.1.1)
+pub invariant_of-of_pairs : goal.invariant_of-of_pairs
+invariant_of-of_pairs c = record { parts = near_parts _ c.args.asked.now.parts c.sharing-near.ensures.front }
 
 pub returns : goal.returns
 returns c =
-    let d = c.args in
+    let a = c.args.asked.now in
     let n = c.sharing-near.ensures in
-    c.of_pairs.ensures ∙ ap (max d.best) (near_worth c.marks_of-marks.ensures d.states.now d.root.now d.part.now (near_front n) n.raises)
+    let same = c.requires.1.0 in
+    c.of_pairs.ensures ∙ ap (max c.args.best)
+    (rw same
+    (near_worth (rw same at c.marks_of-marks.ensures) a.states.now a.root.now a.part.now a.bar n.front
+    (c.max.ensures ∙ ap (max a.bar) n.raises)))

@@ -1,27 +1,21 @@
--- The loop keeps its invariant, and the contract follows from it at each return.
-use mathlib.Core.Path.{sym, ap, ◌∙◌}
-use Prim.Native.Nat.{◌*◌}
-use native.Mathlib.Omega.{arith}
+-- The loop keeps its invariant, and the contract follows from it at its end.
+use mathlib.Core.Path.{sym, ◌∙◌}
 use Rattle.laws.specs.Greatest.{climb_slots}
+use Rattle.laws.specs.Passing.{pass_asked, pass_over}
 use Rattle.choice.specs.Worth.{pairs_worth}
-use Rattle.laws.specs.Passing.{pass_starts, pass_asked, pass_over}
 use Rattle.choice.proofs.of_pairs.Goals as goal
-
-pub loop-k-init : goal.loop-k-init
-loop-k-init c = pass_starts _ _ _ _
-
-pub stands_before-requires : goal.stands_before-requires
-stands_before-requires c = (c.requires.1.0, omega (arith, c.loop-k-test.true, c.rule_id-n.ensures))
-
-pub loop-k-preserved-then-stands_before : goal.loop-k-preserved-then-stands_before
-loop-k-preserved-then-stands_before c = pass_over c.loop-k.invariant c.loop-k-test.true c.rule_id-x.ensures (sym c.stands_before.ensures ∙ c.if-stands_before.true)
-
-pub of_end-most-requires : goal.of_end-most-requires
-of_end-most-requires c = let p = c.requires in (p.0, (p.1.0, (p.1.1, omega (arith, c.rule_id-x.ensures, p.1.1.ends c.loop-k.k (omega (arith, c.loop-k-test.true, c.rule_id-n.ensures))))))
+use Rattle.choice.proofs.of_pairs.Goals.{then-not-stands_before, else-not-stands_before}
 
 pub loop-k-preserved : goal.loop-k-preserved
-loop-k-preserved c = pass_asked c.loop-k.invariant c.loop-k-test.true c.rule_id-x.ensures c.of_end-most.ensures
+loop-k-preserved c =
+    let l = c.loop-k in
+    let h = c.loop-k-test.true in
+    elim c.if-not-stands_before.branch [
+      | then-not-stands_before w ↦ pass_asked l.invariant h c.end_site-x.ensures (w.most-is ∙ w.of_end-most.ensures)
+      | else-not-stands_before w ↦ rw w.most-is
+          (pass_over l.invariant h c.end_site-x.ensures (sym c.stands_before.ensures ∙ w.if-not-stands_before.false))
+    ]
 
 pub returns : goal.returns
 unfolding pairs_worth
-returns c = climb_slots _ _ (ap (λ m. 2 * m) c.rule_id-n.ensures) c.loop-k.invariant.climbed c.loop-k-test.false
+returns c = climb_slots _ _ c.end_count-n.ensures.0 c.loop-k.invariant.climbed c.loop-k-test.false

@@ -13,7 +13,7 @@ unfolding sum_of
 loop-k-preserved c =
     let args = c.args in
     let loop = c.loop-k in
-    (search rules, c.wrapping_add_u32-sum.ensures.value ∙ ap (λ (x : ℕ). x % 2 ^ 32) (ap₂ (λ (x y : ℕ). x + y) loop.invariant.1 (c.read32.ensures ∙ omega arith)) ∙ ap (sum_of edition_1.weight args.book.now args.at) (sym (add-one loop.k)))
+    (search rules, ap (λ (x : ℕ). x % 2 ^ 32) (ap₂ (λ (x y : ℕ). x + y) loop.invariant.1 (c.read32-sum.ensures ∙ omega arith)) ∙ ap (sum_of edition_1.weight args.book.now args.at) (sym (add-one loop.k)))
 
 pub returns : goal.returns
 returns c =

@@ -1,21 +1,17 @@
 -- Number, kind, count, and the bytes behind those in use.
-use Rattle.std.proofs.Common.{sym, ◌∙◌, eq-eqb, ne_eqb}
+use Rattle.std.proofs.Common.{◌≡◌, ◌+◌, ◌-◌, ◌*◌, arith, rules, tests}
+use Rattle.definition.specs.Lists.{every}
+use Rattle.definition.specs.Tables.{zero_from}
 use Rattle.definition.specs.Bytes.{framed}
-use Rattle.laws.specs.Answers.{every_stop, every_rest, every_one}
+use Rattle.laws.specs.Chains.{zero_window}
 use Rattle.frames.proofs.framed.Goals as goal
 
-pub returns-then-wide-i : goal.returns-then-wide-i
-unfolding framed
-returns-then-wide-i c = sym (every_stop _ 0 (ne_eqb _ _ (λ e. c.if-wide-i.true (c.wide.ensures ∙ c.read16.ensures.0 ∙ e))))
-
-pub returns-then-book-o : goal.returns-then-book-o
-unfolding framed
-returns-then-book-o c = sym (every_stop _ 1 (ne_eqb _ _ c.if-book-o.true))
-
 pub returns-then-book-o-2 : goal.returns-then-book-o-2
-unfolding framed
-returns-then-book-o-2 c = sym (every_stop _ 2 (ne_eqb _ _ c.if-book-o-2.true))
-
-pub returns : goal.returns
-unfolding framed
-returns c = sym (every_rest _ (eq-eqb _ _ (sym c.read16.ensures.0 ∙ sym c.wide.ensures ∙ c.if-wide-i.false)) (every_rest _ (eq-eqb _ _ c.if-book-o.false) (every_rest _ (eq-eqb _ _ c.if-book-o-2.false) (every_one _ ∙ sym c.zero_bytes.ensures))))
+unfolding framed every
+returns-then-book-o-2 c =
+    let book = c.args.book.now in
+    let used = c.args.used in
+    let start = 512 * c.args.i + 4 + used in
+    let long = 512 * c.args.i + 4 + 504 - start in
+    let filler : c.all.result ≡ zero_from book start (504 - used) = zero_window book start (504 - used) long c.all.ensures.ran c.iter.ensures.rest (omega arith) (omega arith) (λ x b q k. search (rules, tests)) in
+    grind (arith, filler)

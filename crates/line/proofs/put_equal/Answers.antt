@@ -1,6 +1,9 @@
 -- `put_equal` meets its contract: text behind text.
-use Rattle.line.proofs.Writing.{writes_then, writes_as, equal_is}
+use Rattle.definition.specs.Listing.{equal_line, field}
+use Rattle.room.proofs.Written.{writes_then}
+use borrow.Author.Rules.{rules}
 use Rattle.line.proofs.put_equal.Goals as goal
 
 pub returns : goal.returns
-returns c = writes_as (writes_then (writes_then (writes_then c.put_start-first.ensures c.put_field-second.ensures) c.put_field-third.ensures) c.put_byte.ensures) (equal_is _ _ _ _)
+unfolding equal_line field
+returns c = search (rules, writes_then)

@@ -1,6 +1,7 @@
 -- `put_field` meets its contract: text behind text.
-use Rattle.line.proofs.Writing.{writes_then}
+use Rattle.room.proofs.Written.{writes_then}
+use borrow.Author.Rules.{rules}
 use Rattle.line.proofs.put_field.Goals as goal
 
 pub returns : goal.returns
-returns c = writes_then c.put_text-next.ensures c.put_decimal.ensures
+returns c = search (rules, writes_then)

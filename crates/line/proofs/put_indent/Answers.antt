@@ -1,14 +1,6 @@
--- The loop keeps its invariant, and the contract follows from it at each return.
-use native.Mathlib.Omega.{arith}
-use Rattle.line.proofs.Writing.{each_starts, each_turn, indents}
-use borrow.Author.Rules.{rules}
+-- The loop keeps its invariant.
+use Rattle.room.proofs.Written.{each_turn}
 use Rattle.line.proofs.put_indent.Goals as goal
 
-pub loop-k-init : goal.loop-k-init
-loop-k-init c = (λ p e. each_starts _ _ _ _, (omega arith, omega arith))
-
-pub loop-k-preserved : goal.loop-k-preserved
-loop-k-preserved c = (λ p e. each_turn (c.loop-k.invariant.0 p e) (omega (arith, e, c.loop-k-test.true)) c.put_text-pos.ensures, (omega arith, search rules))
-
-pub returns : goal.returns
-returns c = indents c.loop-k.invariant.0 c.loop-k-test.false
+pub loop-preserved : goal.loop-preserved
+loop-preserved c = each_turn c.loop.invariant c.loop-test.true c.put_text.ensures

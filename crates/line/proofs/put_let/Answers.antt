@@ -1,7 +1,9 @@
 -- `put_let` meets its contract: text behind text.
-use Rattle.line.specs.Writes.{numbers_of}
-use Rattle.line.proofs.Writing.{writes_then, writes_as, let_is, path_long}
+use Rattle.definition.specs.Listing.{let_line, field}
+use Rattle.room.proofs.Written.{writes_then}
+use borrow.Author.Rules.{rules}
 use Rattle.line.proofs.put_let.Goals as goal
 
 pub returns : goal.returns
-returns c = writes_as (writes_then (writes_then (c.put_indent-first.ensures.is (numbers_of c.args.path) (path_long c.requires)) c.put_field-second.ensures) c.put_byte.ensures) (let_is _ 0 _)
+unfolding let_line field
+returns c = search (rules, writes_then)

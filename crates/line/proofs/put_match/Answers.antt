@@ -1,6 +1,9 @@
 -- `put_match` meets its contract: text behind text.
-use Rattle.line.proofs.Writing.{writes_then, writes_as, match_is}
+use Rattle.definition.specs.Listing.{match_line, field}
+use Rattle.room.proofs.Written.{writes_then}
+use borrow.Author.Rules.{rules}
 use Rattle.line.proofs.put_match.Goals as goal
 
 pub returns : goal.returns
-returns c = writes_as (writes_then (writes_then c.put_start-first.ensures c.put_field-second.ensures) c.put_byte.ensures) (match_is _ _ _)
+unfolding match_line field
+returns c = search (rules, writes_then)

@@ -1,13 +1,7 @@
--- `put_text` meets its contract: the bytes before k are written.
-use mathlib.Core.Path.{◌≡◌}
+-- `put_text` meets its contract: the bytes before `byte-index` are written.
 use mathlib.Core.List.{◌∷◌, []}
-use Prim.Native.Nat.{◌≤◌, ◌-◌}
-use lib.ListN.{length}
-use Rattle.line.proofs.Writing.{Each}
+use Rattle.room.proofs.Written.{Each}
 use Rattle.line.proofs.put_text.Given as goal
 
-abbrev pub invariant-loop-k : goal.invariant-loop-k
-invariant-loop-k l = Each (λ b. b ∷ []) l.source l.k l.initial.text l.at l.pos l.text × ((l.k ≤ length l.source) × (length l.text ≡ length l.initial.text))
-
-abbrev pub decreases-loop-k : goal.decreases-loop-k
-decreases-loop-k l = length l.source - l.k
+abbrev pub invariant-loop-byte : goal.invariant-loop-byte
+invariant-loop-byte l = Each (λ b. b ∷ []) l.source l.byte-index l.initial.out l.out

@@ -1,33 +1,35 @@
 -- `plan` meets its contract: the tables read are the book, and its tree is written or its refusal told.
-use mathlib.Core.Path.{sym}
-use native.Mathlib.Omega.{arith}
+use mathlib.Core.Path.{refl, sym}
 use lib.Seq.{length-take-le}
-use Rattle.plan.proofs.Deciding.{few_sites, few_rules, site_room, rule_room, tables_accepted, tree_few, planned_tree, planned_refusal}
+use Rattle.std.proofs.lemmas.Result.{err_from_is_err_and}
+use Rattle.plan.proofs.Deciding.{site_room, rule_room, sites_table, rules_accepted, tree_few, planned_tree, planned_refusal}
 use Rattle.plan.proofs.plan.Goals as goal
 
-pub overflow_mul-sites : goal.overflow_mul-sites
-overflow_mul-sites c = record { fits = omega (arith, few_sites c.read.ensures _ _ c.in-Tables.is) }
+pub returns-in_err-size : goal.returns-in_err-size
+returns-in_err-size c =
+    let p = err_from_is_err_and c.from_residual.result c.from_residual.ensures.1 in
+    rw (p.1, p.2) (planned_refusal c.in_err-size.ensures _ refl _)
 
 pub slice_bounds-sites-end : goal.slice_bounds-sites-end
-slice_bounds-sites-end c = site_room c.read.ensures _ _ c.in-Tables.is
+slice_bounds-sites-end c = site_room c.in_ok-size.ensures c.in_ok-size.size refl
 
-pub slice_bounds-put_tree-end : goal.slice_bounds-put_tree-end
-slice_bounds-put_tree-end c = sym (length-take-le _ _ (site_room c.read.ensures _ _ c.in-Tables.is))
-
-pub overflow_mul-rules : goal.overflow_mul-rules
-overflow_mul-rules c = record { fits = omega (arith, few_rules c.read.ensures _ _ c.in-Tables.is) }
+pub slice_bounds-put_tables-end : goal.slice_bounds-put_tables-end
+slice_bounds-put_tables-end c = sym (length-take-le _ _ (site_room c.in_ok-size.ensures c.in_ok-size.size refl))
 
 pub slice_bounds-rules-end : goal.slice_bounds-rules-end
-slice_bounds-rules-end c = rule_room c.read.ensures _ _ c.in-Tables.is
+slice_bounds-rules-end c = rule_room c.in_ok-size.ensures c.in_ok-size.size refl
 
-pub slice_bounds-put_tree-end-in-Tables : goal.slice_bounds-put_tree-end-in-Tables
-slice_bounds-put_tree-end-in-Tables c = sym (length-take-le _ _ (rule_room c.read.ensures _ _ c.in-Tables.is))
+pub slice_bounds-put_tables-end-2 : goal.slice_bounds-put_tables-end-2
+slice_bounds-put_tables-end-2 c = sym (length-take-le _ _ (rule_room c.in_ok-size.ensures c.in_ok-size.size refl))
 
-pub put_tree-requires : goal.put_tree-requires
-put_tree-requires c = (tables_accepted c.read.ensures _ _ c.in-Tables.is, tree_few c.read.ensures _ _ c.in-Tables.is)
+pub put_tables-requires-clause-table : goal.put_tables-requires-clause-table
+put_tables-requires-clause-table c = sites_table c.in_ok-size.ensures c.in_ok-size.size refl
 
-pub returns-in-Tables : goal.returns-in-Tables
-returns-in-Tables c = planned_tree c.read.ensures _ _ c.in-Tables.is _ c.put_tree.ensures
+pub put_tables-requires-clause-accepted : goal.put_tables-requires-clause-accepted
+put_tables-requires-clause-accepted c = rules_accepted c.in_ok-size.ensures c.in_ok-size.size refl
 
-pub returns-in-Refused : goal.returns-in-Refused
-returns-in-Refused c = planned_refusal c.read.ensures _ c.in-Refused.is _
+pub put_tables-requires-clause-few : goal.put_tables-requires-clause-few
+put_tables-requires-clause-few c = tree_few c.in_ok-size.ensures c.in_ok-size.size refl
+
+pub returns : goal.returns
+returns c = planned_tree c.in_ok-size.ensures c.in_ok-size.size refl _ c.put_tables.ensures

@@ -26,7 +26,11 @@ unfolding id_field
 loop-k-preserved c =
     let args = c.args in
     let loop = c.loop-k in
-    let q : args.o + 46 ≡ args.o + 14 + 32 = omega arith in (search rules, ap₂ (λ (m : List ℕ) (x : ℕ). set m (args.at + loop.k) x) loop.invariant.1 (c.read16-id.ensures.0 ∙ ap (λ (o : ℕ). le16 args.book.now (o + 2 * loop.k)) q) ∙ words_more args.rules.now args.at (id_field slots args.book.now args.o) loop.k)
+    let q : args.o + 46 ≡ args.o + 14 + 32 = omega arith in (
+      search rules,
+      ap₂ (λ (m : List ℕ) (x : ℕ). set m (args.at + loop.k) x) loop.invariant.1 (c.read16-id.ensures.0 ∙ ap (λ (o : ℕ). le16 args.book.now (o + 2 * loop.k)) q)
+          ∙ words_more args.rules.now args.at (id_field slots args.book.now args.o) loop.k,
+    )
 
 pub returns : goal.returns
 returns c =

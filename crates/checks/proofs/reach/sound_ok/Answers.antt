@@ -1,36 +1,35 @@
--- The loop keeps its invariant, and the contract follows from it at each return.
-use Prim.Native.Nat.{ℕ}
-use mathlib.Core.Path.{◌≡◌, sym, ap, ◌∙◌}
-use native.Mathlib.Omega.{arith}
-use Rattle.checks.proofs.RuleTests.{rule_passes}
-use Rattle.checks.proofs.Soundness.{sourced, sound_ok_is}
+-- Each rule is asked in turn.
+use Rattle.std.proofs.Common.{ℕ, ◌∙◌, arith, rules, tests}
+use Rattle.std.proofs.lemmas.Iterator.{serves_from_Range}
 use Rattle.definition.specs.Accept.{sound}
 use Rattle.definition.specs.Book.{slots}
-use Rattle.definition.specs.Lists.{upto, all}
 use Rattle.definition.specs.Tables.{rule_at, book_of}
-use Rattle.laws.specs.Turns.{upto_next, upto_stop}
-use borrow.Author.Rules.{rules}
+use Rattle.laws.specs.Chains.{all_below}
+use Rattle.checks.proofs.Soundness.{sound_ok_is, sourced}
+use Rattle.checks.proofs.RuleTests.{rule_passes, counts_fit}
+use Rattle.tables.specs.Held.{Words}
 use Rattle.checks.proofs.reach.sound_ok.Goals as goal
 
-pub sound-requires : goal.sound-requires
-sound-requires c =
-    let args = c.args in
+pub all-requires-clause-callable : goal.all-requires-clause-callable
+all-requires-clause-callable c =
+    let sites = c.args.sites.now in
+    let rules_now = c.args.rules.now in
+    let S = c.args.site_count in
+    let R = c.args.rule_count in
     let pre = c.requires in
-    (pre.0, pre.1, sourced slots args.site_count args.rule_count args.sites.now args.rules.now (λ k. (c.type_inv.sites k).fits) pre.4, omega arith, rule_passes slots args.site_count args.rule_count args.sites.now args.rules.now pre.5 c.loop-i.i c.loop-i-test.true)
-
-pub returns-then-not-sound : goal.returns-then-not-sound
-returns-then-not-sound c =
-    let args = c.args in
-    sym (upto_stop (λ i. sound (book_of slots args.site_count args.rule_count args.sites.now args.rules.now) (rule_at slots args.rules.now i)) args.rule_count c.loop-i.i c.loop-i-test.true (sym (c.sound.ensures args.rule_count) ∙ c.if-not-sound.true)) ∙ (sound_ok_is slots args.site_count args.rule_count args.sites.now args.rules.now)
-
-pub loop-i-preserved : goal.loop-i-preserved
-loop-i-preserved c =
-    let args = c.args in
-    let loop = c.loop-i in
-    (search rules, upto_next (λ i. sound (book_of slots args.site_count args.rule_count args.sites.now args.rules.now) (rule_at slots args.rules.now i)) loop.i loop.invariant.1 (sym (c.sound.ensures args.rule_count) ∙ c.if-not-sound.false))
+    let words : Words sites = λ k. (c.type_inv.sites k).fits in
+    let sites_fit = sourced slots S R sites rules_now words pre.4 in
+    serves_from_Range (λ x q r. search rules)
+    (λ i l h.
+    let passes = rule_passes slots S R sites rules_now pre.5 i h in
+    let fit = counts_fit slots S rules_now i passes in
+    (λ _ _ _ _ _ _ _ _ _ _. (omega arith, fit), λ _ _ _ _ _ _ _ _ _ rule _ _. (pre.0, pre.1, sites_fit, rw rule.ensures passes)))
 
 pub returns : goal.returns
 returns c =
     let args = c.args in
-    let loop = c.loop-i in
-    let e : loop.i ≡ args.rule_count = omega arith in sym loop.invariant.1 ∙ ap (λ (n : ℕ). all (λ i. sound (book_of slots args.site_count args.rule_count args.sites.now args.rules.now) (rule_at slots args.rules.now i)) (upto n)) e ∙ (sound_ok_is slots args.site_count args.rule_count args.sites.now args.rules.now)
+    let u = args.rules.now in
+    let book = book_of slots args.site_count args.rule_count args.sites.now u in
+    let asked = λ (i : ℕ). sound book (rule_at slots u i) in
+    all_below asked args.rule_count c.all.ensures.ran (λ x b q k. search (rules, tests))
+    ∙ sound_ok_is slots args.site_count args.rule_count args.sites.now u

@@ -1,31 +1,34 @@
 -- Its three exits are the three sorts of visit.
-use Prim.Native.Nat.{◌+◌, ◌*◌}
 use mathlib.Core.Path.{sym, ◌∙◌}
 use native.Mathlib.Omega.{arith}
-use Rattle.checks.proofs.Marking.{marked_as, marked_count}
+use Rattle.checks.proofs.Marking.{marked_as}
 use Rattle.checks.proofs.Visits.{visit_unmarked, visit_refused, visit_marked, source_word, sources_judged}
-use Rattle.checks.specs.Marks.{stepped}
 use Rattle.definition.specs.Book.{slots}
-use Rattle.definition.specs.Tables.{site_words}
+use Rattle.definition.specs.Tables.{site_at, rule_at}
 use Rattle.checks.proofs.reach.visit.Goals as goal
 
-pub returns-then-marks-s-ne1 : goal.returns-then-marks-s-ne1
-returns-then-marks-s-ne1 c =
+pub returns-then-not-marks-s : goal.returns-then-not-marks-s
+returns-then-not-marks-s c =
     let args = c.args in
-    visit_unmarked slots args.sites.now args.rules.now args.i args.s args.marks.now c.if-marks-s-ne1.true
+    visit_unmarked slots (site_at args.site.now 0) (rule_at slots args.rule.now.words.now 0) args.s args.marks.now c.if-not-marks-s.true
 
 pub returns-then-not-granted_if_bound : goal.returns-then-not-granted_if_bound
 returns-then-not-granted_if_bound c =
     let args = c.args in
-    visit_refused slots args.sites.now args.rules.now args.i args.s args.marks.now c.if-marks-s-ne1.false (sym c.granted_if_bound.ensures ∙ c.if-not-granted_if_bound.true)
+    let rule = rule_at slots args.rule.now.words.now 0 in
+    let refused = sym c.granted_if_bound.ensures ∙ c.if-not-granted_if_bound.true in
+    visit_refused slots (site_at args.site.now 0) rule args.s args.marks.now c.if-not-marks-s.false refused
 
 pub mark-requires : goal.mark-requires
 mark-requires c =
-    let args = c.args in
-    let pre = c.requires in
-    let e = (c.wide.ensures ∙ c.site_word.ensures) in let q = pre.3.few in (omega arith, pre.2, λ k h. (omega arith, rw (source_word args.sites.now args.s k) (pre.3.below k (omega arith))))
+    let fit = c.requires.2 in
+    let few = fit.few in
+    (omega arith, c.requires.1, λ k h. (omega arith, rw (source_word c.args.site.now 0 k) (fit.below k h)))
 
 pub returns : goal.returns
 returns c =
     let args = c.args in
-    visit_marked slots args.sites.now args.rules.now args.i args.s args.marks.now _ c.if-marks-s-ne1.false (sym c.granted_if_bound.ensures ∙ c.if-not-granted_if_bound.false) (marked_as (marked_count (stepped args.sites.now (site_words * args.s + 2) 1) (c.wide.ensures ∙ c.site_word.ensures) c.mark.ensures) (sources_judged args.sites.now args.s))
+    let site = args.site.now in
+    let granted = sym c.granted_if_bound.ensures ∙ c.if-not-granted_if_bound.false in
+    let run = marked_as c.mark.ensures (sources_judged site 0) in
+    visit_marked slots (site_at site 0) (rule_at slots args.rule.now.words.now 0) args.s args.marks.now _ c.if-not-marks-s.false granted run

@@ -1,16 +1,15 @@
--- The loop's invariant: the first k places are marked, and the rules of theirs that lack the test have raised `top`.
+-- The loop's invariant: the marks of the first k places are told, and the rules of theirs that lack the test have raised `top`.
 use mathlib.Core.Path.{◌≡◌}
-use Prim.Native.Nat.{◌-◌}
-use lib.ListN.{length}
-use Rattle.laws.specs.Loops.{Filled}
+use mathlib.Core.Bool.{false}
+use Prim.Native.Nat.{ℕ, ◌<◌}
+use lib.ListN.{length, get_or}
 use Rattle.tables.specs.Held.{rank_of, test_of}
 use Rattle.order.specs.Parts.{rule_tests}
 use Rattle.order.proofs.Asks.{Lacked}
-use Rattle.choice.specs.Worth.{had_at}
 use Rattle.choice.proofs.tests.ask_once.Given as goal
 
 abbrev pub invariant-loop-k : goal.invariant-loop-k
-invariant-loop-k l = Filled (had_at l.rules (test_of l.a l.b) l.part) l.k l.initial.had l.had × ((length l.initial.had ≡ 252) × Lacked (rule_tests l.rules (test_of l.a l.b)) (rank_of l.rules) l.part l.k l.top)
-
-abbrev pub decreases-loop-k : goal.decreases-loop-k
-decreases-loop-k l = length l.part - l.k
+invariant-loop-k l =
+    (length l.had ≡ 252)
+    × ((j : ℕ) → j < l.k → get_or l.had j false ≡ rule_tests l.asked.rules.now (test_of l.test) (get_or l.asked.part.now j 0))
+    × Lacked (rule_tests l.asked.rules.now (test_of l.test)) (rank_of l.asked.rules.now) l.asked.part.now l.k l.top

@@ -7,12 +7,17 @@ use Rattle.choice.proofs.tests.of_test.Goals as goal
 pub returns-then-not-is_open : goal.returns-then-not-is_open
 returns-then-not-is_open c = test_shut _ _ _ _ _ _ _ (sym c.is_open.ensures ∙ c.if-not-is_open.true)
 
-pub returns-then-part-tie : goal.returns-then-part-tie
-returns-then-part-tie c = test_behind _ _ _ _ _ _ _ (sym c.is_open.ensures ∙ c.if-not-is_open.false) c.state_of.ensures.0 c.code_of.ensures.0 c.if-part-tie.true
+pub returns-then-asked-tie : goal.returns-then-asked-tie
+returns-then-asked-tie c = test_behind _ _ _ _ _ _ _
+    (sym c.is_open.ensures ∙ c.if-not-is_open.false) c.state_of.ensures.0 c.code_of.ensures.0 c.if-asked-tie.true
 
 pub returns-then-n-eq0 : goal.returns-then-n-eq0
-returns-then-n-eq0 c = test_none _ _ _ _ _ _ _ (sym c.is_open.ensures ∙ c.if-not-is_open.false) (sym c.count-n.ensures.0 ∙ c.if-n-eq0.true)
+returns-then-n-eq0 c = test_none _ _ _ _ _ _ _ (sym c.is_open.ensures ∙ c.if-not-is_open.false)
+    (sym c.count-n.ensures.0 ∙ c.if-n-eq0.true)
 
 pub returns : goal.returns
 returns c = let d = c.args in
-    c.greater.ensures ∙ ap (max d.best) (test_some _ _ _ _ _ _ d.best (sym c.is_open.ensures ∙ c.if-not-is_open.false) c.state_of.ensures.0 c.code_of.ensures.0 c.count-n.ensures.0 c.if-n-eq0.false)
+    c.max.ensures ∙ ap (max d.best)
+    (test_some _ _ _ _ _ _ d.best
+    (sym c.is_open.ensures
+    ∙ c.if-not-is_open.false) c.state_of.ensures.0 c.code_of.ensures.0 c.count-n.ensures.0 c.if-n-eq0.false)

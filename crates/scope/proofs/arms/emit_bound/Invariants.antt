@@ -1,5 +1,4 @@
 -- The loop's invariant: the sites below x are passed as the definition's pass does it.
-use Prim.Native.Nat.{◌-◌, ◌≤◌}
 use Rattle.definition.specs.Book.{Book}
 use Rattle.definition.specs.Scope.{emitted, bound_by}
 use Rattle.tables.specs.Held.{shown}
@@ -8,7 +7,4 @@ use Rattle.scope.proofs.Sweeps.{Swept}
 use Rattle.scope.proofs.arms.emit_bound.Given as goal
 
 abbrev pub invariant-loop-x : goal.invariant-loop-x
-invariant-loop-x l = (l.x ≤ l.n) × ((b : Book) → Drawn l.n l.sites b → Swept (bound_by b l.s (shown l.p)) emitted l.x l.initial.next l.next)
-
-abbrev pub decreases-loop-x : goal.decreases-loop-x
-decreases-loop-x l = l.n - l.x
+invariant-loop-x l = (b : Book) → Drawn l.sites b → Swept (bound_by b l.s (shown l.p)) emitted l.x l.fn.scope l.scope

@@ -6,4 +6,7 @@ use Rattle.scope.proofs.arms.enter_arm.Goals as goal
 
 pub returns : goal.returns
 unfolding arm_bindings
-returns c = λ b d. let w = c.add_bindings.ensures b d in let e = c.emit_bound-bound.ensures b d in record { states = w.states ∙ ap (worked_out b) e.states; root = w.root ∙ e.root; rank = w.rank ∙ e.rank }
+returns c = λ b d.
+    let e = c.emit_bound.ensures b d in
+    let w = c.add_bindings.ensures b d in
+    record { states = w.states ∙ ap (worked_out b) e.states; root = w.root ∙ e.root; rank = w.rank ∙ e.rank }

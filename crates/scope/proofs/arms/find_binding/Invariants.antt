@@ -1,5 +1,4 @@
 -- The loop's invariant: the first site that stands at the position is the first one from x on.
-use Prim.Native.Nat.{◌-◌, ◌≤◌}
 use Rattle.definition.specs.Book.{Book}
 use Rattle.tables.specs.Held.{shown}
 use Rattle.scope.specs.Drawn.{Drawn}
@@ -7,7 +6,4 @@ use Rattle.scope.proofs.Binds.{Seeking}
 use Rattle.scope.proofs.arms.find_binding.Given as goal
 
 abbrev pub invariant-loop-x : goal.invariant-loop-x
-invariant-loop-x l = (l.x ≤ l.n) × ((b : Book) → Drawn l.n l.sites b → Seeking b l.s (shown l.p) l.k l.n l.x)
-
-abbrev pub decreases-loop-x : goal.decreases-loop-x
-decreases-loop-x l = l.n - l.x
+invariant-loop-x l = (b : Book) → Drawn l.sites b → Seeking b l.s (shown l.p) l.k l.sites.count l.x

@@ -1,10 +1,16 @@
 -- `scope::arms::put_pattern` meets its contract: three words, then the places.
-use native.Mathlib.Omega.{arith}
+use mathlib.Core.Path.{◌≡◌}
+use Rattle.std.proofs.Common.{rules, w32}
+use Rattle.std.specs.Int.{cast_unsigned}
 use Rattle.definition.specs.Tree.{pattern_words}
-use Rattle.room.proofs.Written.{wrote_one, wrote_then}
-use Rattle.scope.proofs.Binds.{word_back}
+use Rattle.room.proofs.Written.{writes_one, writes_then}
+use Rattle.scope.proofs.Binds.{number_word}
 use Rattle.scope.proofs.arms.put_pattern.Goals as goal
 
 pub returns : goal.returns
 unfolding pattern_words
-returns c = λ b d. rw (word_back c.args.p.number (omega arith)) (wrote_then (wrote_one c.put_word-first.ensures) (wrote_then (wrote_one c.put_word-second.ensures) (wrote_then (wrote_one c.put_word-third.ensures) (c.put_places.ensures b d))))
+returns c =
+    let e : cast_unsigned w32 c.args.p.number ≡ c.cast_unsigned.result = search rules in
+    λ b d.
+    let head = writes_then (writes_one c.put.ensures) (writes_then (writes_one c.put-2.ensures) (writes_one c.put-3.ensures)) in
+    rw (number_word c.args.p.number, e) (writes_then head (c.put_places.ensures b d))

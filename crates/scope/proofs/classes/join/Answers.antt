@@ -3,4 +3,4 @@ use Rattle.scope.proofs.Standing.{joins}
 use Rattle.scope.proofs.classes.join.Goals as goal
 
 pub returns : goal.returns
-returns c = joins c.args.scope _ _ c.requires.1.0 c.requires.1.1.0 c.requires.1.1.1 c.merge-merge.ensures
+returns c = joins c.args.scope.states _ _ _ _ c.requires.1.0 c.requires.1.1.0 c.requires.1.1.1 c.merge.ensures

@@ -10,11 +10,13 @@ zeros zero z = refl
 zeros (suc n) zero = refl
 zeros (suc n) (suc z) = zeros n z
 
-pub returns : goal.returns
-returns c = record {
-  sets = fun_ext (λ z. rw (zeros 252 z));
+pub invariant_of-result : goal.invariant_of-result
+invariant_of-result c = record {
   made = record {
     roots = λ z r h. absurd (omega (arith, zeros 252 z));
     ranks = λ r h. absurd (omega (arith, zeros 252 r));
   };
 }
+
+pub returns : goal.returns
+returns c = fun_ext (λ z. rw (zeros 252 z))

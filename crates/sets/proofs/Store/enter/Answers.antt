@@ -1,16 +1,12 @@
--- `sets::Store::enter` meets its contract: by the laws of entering, where x is unmerged and where it is not.
+-- `sets::Store::enter` meets its contract: by the laws of entering, where x is in a set and where it is not.
 use Prim.Native.Nat.{◌<◌}
 use lib.ListN.{length}
-use Rattle.sets.proofs.Entering.{enters, stays_in}
 use borrow.Author.Rules.{rules}
+use Rattle.sets.proofs.Entering.{entered_made}
 use Rattle.sets.proofs.Store.enter.Goals as goal
 
-pub returns-then-root-x-eq0 : goal.returns-then-root-x-eq0
-returns-then-root-x-eq0 c =
-    let hl : c.args.x < length c.args.self.root = search rules in
-    let hk : c.args.x < length c.args.self.rank = search rules in
-    enters c.args.self c.requires.made c.args.x hl hk c.if-root-x-eq0.true
-
-pub returns : goal.returns
-returns c =
-    record { sets = stays_in c.args.self c.args.x c.if-root-x-eq0.false; made = c.requires.made }
+pub invariant_of-self : goal.invariant_of-self
+invariant_of-self c =
+    let root : c.args.x < length c.args.self.now.root = search rules in
+    let rank : c.args.x < length c.args.self.now.rank = search rules in
+    record { made = entered_made c.args.self.now c.args.x root rank c.if-self-x-ne0.false }

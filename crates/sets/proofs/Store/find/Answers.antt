@@ -1,44 +1,31 @@
--- `sets::Store::find` meets its contract: at each return the tests that led there are those of the definition, and the store is as it came.
-use Prim.Native.Nat.{ℕ, zero, suc, ◌-◌}
-use mathlib.Core.Path.{◌≡◌, refl, sym, ◌∙◌, ap}
-use mathlib.Core.List.{List}
-use native.Mathlib.Omega.{arith}
+-- `sets::Store::find` meets its contract: where the id is known, its entry less 1 is the representative.
+use Rattle.std.specs.Prelude.{◌≡◌, List, ℕ, zero, suc, ◌-◌, ◌≤◌, Option, Some, None, SomeIff}
+use Rattle.std.proofs.Common.{refl, arith, ap}
+use Rattle.std.proofs.Math.Option.{some}
+use Rattle.std.proofs.lemmas.Result.{err_from_is_err_and}
 use borrow.Author.Tests.{le-ltb, lt-ltb}
 use Rattle.definition.specs.Sets.{representative}
-use Rattle.definition.specs.Answers.{answered, known, find_answer}
-use Rattle.sets.specs.declared.Found.{Found}
+use Rattle.definition.specs.Answers.{known, answered, find_answer}
 use Rattle.sets.specs.View.{class_of}
-use Rattle.sets.specs.Promises.{found_as}
+use Rattle.sets.specs.Promises.{optional}
 use Rattle.sets.proofs.Store.find.Goals as goal
 
-pub returns-then-x-ge252 : goal.returns-then-x-ge252
+pub returns-in_err-label : goal.returns-in_err-label
 unfolding known find_answer
-returns-then-x-ge252 c = record {
-  answer = rw (le-ltb _ _ c.if-x-ge252.true);
-  sets = refl;
-  kept = λ n e. refl;
-  made = c.requires;
-}
+returns-in_err-label c =
+    let p = err_from_is_err_and c.from_residual.result c.from_residual.ensures.1 in
+    let r = c.in_err-label.ensures in
+    rw (p.1, p.2, r.1) (record { answer = rw (le-ltb _ _ r.0) })
 
-pub returns-then-e-eq0 : goal.returns-then-e-eq0
-unfolding known find_answer
-returns-then-e-eq0 c = record {
-  answer = rw (lt-ltb _ _ c.if-x-ge252.false, sym c.wide-e.ensures ∙ c.if-e-eq0.true);
-  sets = refl;
-  kept = λ n e. refl;
-  made = c.requires;
-}
-
-found_entry : (rank : List ℕ) (e : ℕ) → (◌≡◌ {A = ℕ} e 0 → ⊥) → Found.Rep (e - 1) ≡ found_as (answered (representative (class_of rank e)))
-found_entry rank zero n = absurd (n refl)
-found_entry rank (suc r) n = ap Found.Rep (omega arith)
+-- one less than an entry, where there is one less
+less_one : (rank : List ℕ) (e : ℕ) (o : Option ℕ) → SomeIff o (1 ≤ e) (e - 1) → optional o ≡ representative (class_of rank e)
+less_one rank zero None h = refl
+less_one rank zero (Some a) h = absurd (omega arith)
+less_one rank (suc r) None h = absurd (h (omega arith))
+less_one rank (suc r) (Some a) h = ap some (omega arith)
 
 pub returns : goal.returns
 unfolding known find_answer
 returns c =
-    record {
-      answer = rw (lt-ltb _ _ c.if-x-ge252.false, ← c.wide-e.ensures) (found_entry c.args.self.rank c.wide-e.result c.if-e-eq0.false);
-      sets = refl;
-      kept = λ n e. refl;
-      made = c.requires;
-    }
+    let e = c.in_ok-label.ensures in
+    record { answer = rw (lt-ltb _ _ e.0, ← e.1) (ap answered (less_one _ _ _ (rw c.from.ensures at c.checked_sub.ensures))) }

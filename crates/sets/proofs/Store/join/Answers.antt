@@ -1,77 +1,66 @@
 -- `sets::Store::join` meets its contract: at each way out by the law of that way (`proofs/Joining.antt`).
-use mathlib.Core.Path.{◌≡◌}
+use mathlib.Core.Path.{◌≡◌, sym}
 use native.Mathlib.Omega.{arith}
 use lib.ListN.{length}
-use Rattle.sets.proofs.Joining.{rank_of, at_x, at_y, grown, join_same, join_second, join_first, join_tie}
+use Rattle.std.proofs.Common.{Less, Equal, Greater}
+use Rattle.std.proofs.lemmas.Cmp.{ranked}
+use Rattle.definition.specs.Sets.{join}
+use Rattle.sets.specs.Promises.{view}
+use Rattle.sets.proofs.Joining.{rank_of, Moves, at_x, at_y, grown, join_second, join_first, join_tie}
 use borrow.Author.Rules.{rules}
 use Rattle.sets.proofs.Store.join.Goals as goal
+use Rattle.sets.proofs.Store.join.Goals.{After-from-3, in-Less, in-Greater, in-Equal}
 
-pub returns-then-a-b : goal.returns-then-a-b
-returns-then-a-b c = join_same c.requires c.if-a-b.true
+pub bounds-self-from : goal.bounds-self-from
+bounds-self-from c =
+    let long : length c.args.self.now.root ≡ 252 = search rules in
+    omega (arith, c.from.ensures, at_x c.requires, long)
 
-pub overflow_sub-j : goal.overflow_sub-j
-overflow_sub-j c = omega (arith, c.wide.ensures, at_x c.requires)
+pub bounds-self-from-2 : goal.bounds-self-from-2
+bounds-self-from-2 c =
+    let long : length c.args.self.now.root ≡ 252 = search rules in
+    omega (arith, c.from-2.ensures, at_y c.requires, long)
 
-pub bounds-rank-wide : goal.bounds-rank-wide
-bounds-rank-wide c =
-    let long : length c.args.self.root ≡ 252 = search rules in
-    omega (arith, c.wide.ensures, at_x c.requires, long)
+pub overflow_add-from : goal.overflow_add-from
+overflow_add-from c =
+    let long : length c.args.self.now.root ≡ 252 = search rules in
+    let s = c.args.self.now in
+    let told = rw (c.from.ensures, c.from-2.ensures) at c.in-Equal.ensures in
+    let tie = ranked (rank_of s c.args.x) (rank_of s c.args.y) Equal told in
+    let small = grown c.requires c.if-a-b.false (sym tie) in
+    rw c.from.ensures (omega (arith, long, small))
 
-pub overflow_sub-k : goal.overflow_sub-k
-overflow_sub-k c = omega (arith, c.wide-2.ensures, at_y c.requires)
+-- the choice of the root that stays is the definition's
+chosen : (c : After-from-3) → let s = c.args.self.now in
+    let t = c.match-cmp.from in
+    Moves s t.0 t.1 t.2 (join c.args.x c.args.y (view s))
+chosen c =
+    let s = c.args.self.now in
+    let long : length s.rank ≡ length s.root = search rules in
+    let told = ranked (rank_of s c.args.x) (rank_of s c.args.y) in
+    elim c.match-cmp.branch [
+      | in-Less w ↦
+          let lower = told Less (rw (c.from.ensures, c.from-2.ensures) at w.in-Less.ensures) in
+          rw (w.from-is, c.from-2.ensures) (join_second c.requires c.if-a-b.false long lower)
+      | in-Greater w ↦
+          let lower = told Greater (rw (c.from.ensures, c.from-2.ensures) at w.in-Greater.ensures) in
+          rw (w.from-is, c.from.ensures) (join_first c.requires c.if-a-b.false long lower)
+      | in-Equal w ↦
+          let tie = told Equal (rw (c.from.ensures, c.from-2.ensures) at w.in-Equal.ensures) in
+          rw (w.from-is, c.from.ensures) (join_tie c.requires c.if-a-b.false long (sym tie))
+    ]
 
-pub bounds-rank-wide-2 : goal.bounds-rank-wide-2
-bounds-rank-wide-2 c =
-    let long : length c.args.self.root ≡ 252 = search rules in
-    omega (arith, c.wide-2.ensures, at_y c.requires, long)
+pub bounds-self-from-3 : goal.bounds-self-from-3
+bounds-self-from-3 c =
+    let long : length c.args.self.now.root ≡ 252 = search rules in
+    elim c.match-cmp.branch [
+      | in-Less w ↦ rw (c.from-3.ensures, w.from-is) (omega (arith, at_y c.requires, long))
+      | in-Greater w ↦ rw (c.from-3.ensures, w.from-is) (omega (arith, at_x c.requires, long))
+      | in-Equal w ↦ rw (c.from-3.ensures, w.from-is) (omega (arith, at_x c.requires, long))
+    ]
 
-pub moved-requires : goal.moved-requires
-moved-requires c =
-    let long : length c.args.self.root ≡ 252 = search rules in
-    (omega (arith, at_x c.requires, at_y c.requires), omega (arith, at_x c.requires, at_y c.requires, long))
-
-pub returns-then-first_lower : goal.returns-then-first_lower
-returns-then-first_lower c =
-    let long : length c.args.self.rank ≡ length c.args.self.root = search rules in
-    let w = c.wide.ensures in
-    let v = c.wide-2.ensures in
-    join_second c.requires c.if-a-b.false long c.moved.result
-    (omega (arith, rw (w, v) at c.if-first_lower.true))
-    (rw v at c.moved.ensures)
-
-pub moved-requires-then-second_lower : goal.moved-requires-then-second_lower
-moved-requires-then-second_lower c =
-    let long : length c.args.self.root ≡ 252 = search rules in
-    (omega (arith, at_x c.requires, at_y c.requires), omega (arith, at_x c.requires, at_y c.requires, long))
-
-pub returns-then-second_lower : goal.returns-then-second_lower
-returns-then-second_lower c =
-    let long : length c.args.self.rank ≡ length c.args.self.root = search rules in
-    let w = c.wide.ensures in
-    let v = c.wide-2.ensures in
-    join_first c.requires c.if-a-b.false long c.moved-then-second_lower.result
-    (omega (arith, rw (w, v) at c.if-second_lower.true))
-    (rw w at c.moved-then-second_lower.ensures)
-
-pub overflow_add-j : goal.overflow_add-j
-overflow_add-j c =
-    let long : length c.args.self.root ≡ 252 = search rules in
-    let w = c.wide.ensures in
-    let v = c.wide-2.ensures in
-    -- the two ranks are the same where neither test holds
-    let same : rank_of c.args.self c.args.y ≡ rank_of c.args.self c.args.x = omega (arith, rw (w, v) at c.if-first_lower.false, rw (w, v) at c.if-second_lower.false) in
-    let g = grown c.requires c.if-a-b.false same in
-    rw w (omega (arith, long, g))
-
-pub moved-requires-2 : goal.moved-requires-2
-moved-requires-2 c =
-    let long : length c.args.self.root ≡ 252 = search rules in
-    (omega (arith, at_x c.requires, at_y c.requires), omega (arith, at_x c.requires, at_y c.requires, long))
+pub invariant_of-self : goal.invariant_of-self
+invariant_of-self c = record { made = rw (c.relabelled-self.ensures, c.from-3.ensures) (chosen c).made }
 
 pub returns : goal.returns
-returns c =
-    let long : length c.args.self.rank ≡ length c.args.self.root = search rules in
-    let w = c.wide.ensures in
-    let v = c.wide-2.ensures in
-    let same : rank_of c.args.self c.args.y ≡ rank_of c.args.self c.args.x = omega (arith, rw (w, v) at c.if-first_lower.false, rw (w, v) at c.if-second_lower.false) in
-    join_tie c.requires c.if-a-b.false long c.moved-2.result same (rw w at c.moved-2.ensures)
+returns c = rw (c.relabelled-self.ensures, c.from-3.ensures) (chosen (goal.at.returns c).After-from-3).sets

@@ -1,9 +1,0 @@
--- The two answers.
-use native.Mathlib.Omega.{arith}
-use Rattle.choice.proofs.tests.one_more.Goals as goal
-
-pub returns-then-t : goal.returns-then-t
-returns-then-t c = rw c.if-t.true
-
-pub returns-else-t : goal.returns-else-t
-returns-else-t c = rw c.if-t.false (omega arith)

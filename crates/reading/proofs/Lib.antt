@@ -1,0 +1,4 @@
+-- Laws of the definition's readers.
+pub mod Readers
+pub mod Tests
+pub mod Loops

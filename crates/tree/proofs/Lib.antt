@@ -1,0 +1,2 @@
+-- Laws of patterns.
+mod ByKind

@@ -1,0 +1,2 @@
+-- What the contract of `tree` cites beside the definition.
+pub mod Patterns
