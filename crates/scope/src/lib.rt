@@ -23,7 +23,8 @@ pub const EMITTED: u8 = 2;
 
 pub const MATCHED: u8 = 3;
 
-// A book's site table that refusals 3 and 4 let pass, with the number of its sites.
+// A book's site table that refusals 3 and 4 let pass, with the number of its sites. What needs a fact of the whole table, as that
+// a source has a smaller id, takes this and a site's id, and no `Site`.
 #[derive(Clone, Copy)]
 pub struct Sites<'a> {
     pub words: &'a [u32],

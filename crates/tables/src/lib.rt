@@ -81,7 +81,8 @@ pub struct Rule<'a> {
     pub ghost held: { Held words.now id },
 }
 
-// A signed number's word with the sign's bit turned, so that the order of words is the order of numbers.
+// A signed number's word with the sign's bit turned, so that the order of words is the order of numbers. No `i32`, since a choice
+// counts one more than a priority.
 fn turned(w: u32) -> u32
     ensures { result ≡ biased w }
 {
@@ -144,7 +145,7 @@ impl<'a> Site<'a> {
         site_word(self.words, self.id, k)
     }
 
-    // Internal: the site's kind, 0 to 7.
+    // Internal: the site's kind. A word and no enum: a record that may be read may be of any kind.
     #[tactic(auto, unfolding(definition::specs::Tables::site_at))]
     pub fn kind(&self) -> u32
         ensures { result ≡ (site_at self.now.words.now self.now.id).kind }

@@ -11,7 +11,7 @@ pub const MOST: usize = 252;
 
 pub const LAST: u32 = 251;
 
-// The word of an empty place.
+// The word of an empty place, as a tree's words have it.
 pub const EMPTY: u32 = 65535;
 
 // How many blocks stand one inside another at most, the root block with them.

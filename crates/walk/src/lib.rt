@@ -24,7 +24,7 @@ pub struct Found {
     pub result: u16,
 }
 
-// A reading, which clauses see as the definition's.
+// A reading, which clauses see as the definition's: three lists, as the call is lent them, whose lengths may differ (refusal 10).
 #[derive(Drop)]
 pub struct Reading<'a> {
     kinds: &'a [u8],
