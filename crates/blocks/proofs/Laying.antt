@@ -25,9 +25,6 @@ module _ {o : Writer ℕ} {u : List ℕ} {p : Writer ℕ} (a : Lays o u p) where
   pub lays_then : {v : List ℕ} {q : Writer ℕ} → Lays p v q → Lays o (u ++ v) q
   lays_then b = record { is = λ h. wrote_then (a.is h) (b.is (wrote_fits (a.is h))); same = b.same ∙ a.same }
 
-  pub lays_as : {v : List ℕ} → u ≡ v → Lays o v p
-  lays_as e = subst (λ t. Lays o t p) e a
-
   pub roomy_after : Roomy o → Roomy p
   roomy_after r = let w = a.is r.inside in record { short = omega (arith, w.size, r.short); inside = wrote_fits w }
 

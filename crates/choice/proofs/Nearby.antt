@@ -2,7 +2,7 @@
 use mathlib.Core.Path.{◌≡◌, refl, sym, ap, subst, ◌∙◌}
 use mathlib.Core.Logic.{◌⊎◌, inl, inr}
 use mathlib.Core.Bool.{Bool, true, false}
-use mathlib.Core.List.{List, [], ◌∷◌, ◌++◌, map, Memᴰ, append-nil}
+use mathlib.Core.List.{List, [], ◌∷◌, ◌++◌, map, Memᴰ}
 use Prim.Native.Nat.{ℕ, ◌+◌, ◌-◌, ◌*◌, ◌≤◌, ◌<◌, max}
 use native.Mathlib.Omega.{arith}
 use native.Mathlib.Numerals.{add-one}
@@ -178,6 +178,3 @@ module _ {p : ℕ → Bool} {part : List ℕ} {k n : ℕ} {ids : List ℕ} (v : 
   share_skip h {x} e t =
       let a : filter p (drop k part) ≡ filter p (drop (k + 1) part) = rw ((in_slice part).more k h, ← e, t) in
       record { few = omega (arith, v.few); long = v.long; is = ap (λ z. take n ids ++ z) (sym a) ∙ v.is }
-
-  pub share_ends : length part ≤ k → take n ids ≡ filter p part
-  share_ends h = let a : filter p (drop k part) ≡ [] = rw ((in_slice part).none k h) in sym (append-nil (take n ids)) ∙ ap (λ z. take n ids ++ z) (sym a) ∙ v.is

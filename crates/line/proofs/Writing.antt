@@ -55,10 +55,6 @@ each_said : (s : List ℕ) → flat place_said s ≡ flat place_text (map place_
 each_said [] = refl
 each_said (x ∷ s) = ap (λ t. place_said x ++ t) (each_said s)
 
-pub none_said : (s : List ℕ) → length s ≡ 0 → [] ≡ places_text (map place_of s)
-none_said [] h = refl
-none_said (x ∷ s) h = absurd (omega arith)
-
 pub all_said : (s : List ℕ) → (length s ≡ 0 → ⊥) → text " places" ++ flat place_said s ≡ places_text (map place_of s)
 all_said [] h = absurd (h refl)
 all_said (x ∷ s) h = ap (λ t. text " places" ++ t) (each_said (x ∷ s))

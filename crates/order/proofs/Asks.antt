@@ -15,7 +15,7 @@ use Rattle.definition.specs.Choice.{Test, has}
 use Rattle.definition.specs.Lists.{all, each}
 use Rattle.definition.specs.Tables.{rule_at}
 use Rattle.laws.specs.Answers.{and-true, and_assoc}
-use Rattle.laws.specs.Runs.{in_slice, each_more, each_end}
+use Rattle.laws.specs.Runs.{in_slice, each_more}
 use Rattle.laws.specs.Splits.{Splitting, split_swap}
 use Rattle.laws.specs.Tests.{split}
 use Rattle.tables.specs.Held.{rank_of, shown}
@@ -64,9 +64,6 @@ module _ {test : ℕ → Bool} {rank : ℕ → ℕ} {part : List ℕ} {k top : �
         within = omega arith;
         is = ap (each (raise test rank) (drop (k + 1) part)) z ∙ sym (each_more (in_slice part) (raise test rank) k l top) ∙ v.is;
       }
-
-  pub lack_ends : length part ≤ k → top ≡ lack_top test rank part
-  lack_ends l = sym (each_end (in_slice part) (raise test rank) k l top) ∙ v.is
 
 -- NO RULE THAT LACKS THE TEST RANKS ABOVE K
 leb_max : (a r K : ℕ) → leb (max a (r + 1)) (K + 1) ≡ leb a (K + 1) && leb r K

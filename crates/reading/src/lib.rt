@@ -2,7 +2,7 @@
 // the root block is looked at.
 #![tactic(auto)]
 
-ghost use Rattle.std.specs.Prelude.{◌≡◌, ℕ, List, ◌+◌, ◌-◌, ◌<◌, ◌≤◌, length, drop, map, IfSome};
+ghost use Rattle.std.specs.Prelude.{◌≡◌, ◌+◌, ◌-◌, ◌<◌, ◌≤◌, length, map, IfSome};
 ghost use Rattle.definition.specs.Lists.{all};
 ghost use Rattle.definition.specs.Tables.{signed};
 ghost use Rattle.definition.specs.Read.{id_ok, place_ok, place_of, number, numbers, read_lets, read_pattern, read_flow};
@@ -42,8 +42,10 @@ pub trait Reader {
     // Arm `number` of a Match with this source.
     fn enter_arm(&mut self, number: u32, site: u32, named: &Named<'_>) -> Self::Mark
         requires { site ≤ 251 }
-        ensures into { self.new ≡ (acts.arm_of self.old number site (pattern_at named.now.kind named.now.number (length named.now.places.now), map place_of named.now.places.now)).0 }
-        ensures mark { result ≡ (acts.arm_of self.old number site (pattern_at named.now.kind named.now.number (length named.now.places.now), map place_of named.now.places.now)).1 };
+        ensures into { self.new ≡ (acts.arm_of self.old number site
+            (pattern_at named.now.kind named.now.number (length named.now.places.now), map place_of named.now.places.now)).0 }
+        ensures mark { result ≡ (acts.arm_of self.old number site
+            (pattern_at named.now.kind named.now.number (length named.now.places.now), map place_of named.now.places.now)).1 };
 
     fn enter_equal(&mut self, a: u32, b: u32) -> Self::Mark
         requires { (a < b) × (b ≤ 251) }

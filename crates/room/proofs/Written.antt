@@ -122,18 +122,12 @@ writes_patch {o} {x} {w} {p} a {y} {q} b = record {
 pub record Each (f : ℕ → List ℕ) (s : List ℕ) (k : ℕ) (o p : Writer ℕ) : Type 0 where
   pub wrote : Writes o (flat f (take k s)) p
 
-pub each_starts : (f : ℕ → List ℕ) (s : List ℕ) (o : Writer ℕ) → Each f s 0 o o
-each_starts f s o = record { wrote = writes_none o }
-
 module _ {f : ℕ → List ℕ} {s : List ℕ} {k : ℕ} {o p : Writer ℕ} (e : Each f s k o p) where
   pub each_turn : k < length s → {q : Writer ℕ} → Writes p (f (get_or s k 0)) q → Each f s (k + 1) o q
   each_turn h w = record { wrote = writes_as (writes_then e.wrote w) (sym more) }
     where
       more : flat f (take (k + 1) s) ≡ flat f (take k s) ++ f (get_or s k 0)
       more = ap (λ j. flat f (take j s)) (add-one k) ∙ ap (flat f) (take-suc s k 0 h) ∙ flat_append f (take k s) (get_or s k 0 ∷ []) ∙ ap (λ t. flat f (take k s) ++ t) (append-nil (f (get_or s k 0)))
-
-  pub each_ends : (n : ℕ) → k ≤ n → n ≤ k → Writes o (flat f (take n s)) p
-  each_ends n h g = let q : k ≡ n = omega arith in writes_as e.wrote (ap (λ j. flat f (take j s)) q)
 
   pub each_whole : length s ≤ k → Writes o (flat f s) p
   each_whole h = writes_as e.wrote (ap (flat f) (take_all k s h))
@@ -151,11 +145,6 @@ pub record Writing (f : ℕ → ℕ) (n k : ℕ) (o p : Writer ℕ) : Type 0 whe
   pub done : List ℕ
   pub whole : map f (upto n) ≡ done ++ map f (from k (n - k))
   pub wrote : Writes o done p
-
-pub writing_starts : (f : ℕ → ℕ) (n : ℕ) (o : Writer ℕ) → Writing f n 0 o o
-writing_starts f n o =
-    let e : n - 0 ≡ n = omega arith in
-    record { done = []; whole = rw e; wrote = writes_none o }
 
 module _ {f : ℕ → ℕ} {n k : ℕ} {o p : Writer ℕ} (i : Writing f n k o p) where
   pub writing_turn : k < n → {x : ℕ} {q : Writer ℕ} → x ≡ f k → Puts p x q → Writing f n (k + 1) o q

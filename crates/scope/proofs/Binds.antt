@@ -2,8 +2,8 @@
 use mathlib.Core.Path.{◌≡◌, refl, sym, ◌∙◌}
 use mathlib.Core.Bool.{Bool, true, false, and-true, and-false}
 use mathlib.Core.List.{List, map, map-map}
-use mathlib.Core.Option.{none, some}
-use Prim.Native.Nat.{ℕ, ◌+◌, ◌-◌, ◌≤◌, ◌<◌}
+use mathlib.Core.Option.{some}
+use Prim.Native.Nat.{ℕ, ◌+◌, ◌-◌, ◌<◌}
 use native.Mathlib.Omega.{arith}
 use lib.ListN.{length, get_or}
 use borrow.Author.Tests.{eq-eqb, ne_eqb, eqb-true}
@@ -15,7 +15,7 @@ use Rattle.std.proofs.Common.{ℤ, pos, negsuc, w32}
 use Rattle.std.specs.Int.{cast_unsigned}
 use Rattle.definition.specs.Tree.{word, place_word}
 use Rattle.laws.specs.Tests.{every_at}
-use Rattle.laws.specs.Asks.{in_range, first_skip, first_hit, first_end}
+use Rattle.laws.specs.Asks.{in_range, first_skip, first_hit}
 use Rattle.laws.specs.Members.{heads_one}
 
 module _ (s : ℕ) (p : Pattern) (x : Site) where
@@ -92,9 +92,6 @@ module _ {b : Book} {s : ℕ} {p : Pattern} {k n : ℕ} where
 
   pub seeking_hit : {x : ℕ} → Seeking b s p k n x → x < n → stands_at b s p k x ≡ true → some x ≡ place_at b s p k
   seeking_hit {x} i h e = sym (i.left ∙ first_hit (in_range n) (stands_at b s p k) x h e)
-
-  pub seeking_ends : {x : ℕ} → Seeking b s p k n x → n ≤ x → none ≡ place_at b s p k
-  seeking_ends {x} i h = sym (i.left ∙ first_end (in_range n) (stands_at b s p k) x h)
 
 -- a number's word is its 32 bits
 pub number_word : (z : ℤ) → word z ≡ cast_unsigned w32 z

@@ -21,9 +21,6 @@ use Rattle.scope.specs.States.{With}
 pub record Swept (test : List ℕ → ℕ → Bool) (v x : ℕ) (s r : Scope) : Type 0 where
   pub so_far : With (sweep test v x s.states) s r
 
-pub sweep_starts : (test : List ℕ → ℕ → Bool) (v : ℕ) (s : Scope) → Swept test v 0 s s
-sweep_starts test v s = record { so_far = record { states = refl; root = refl; rank = refl } }
-
 module _ {test : List ℕ → ℕ → Bool} {v x : ℕ} {s r : Scope} (h : Swept test v x s r) where
   pub sweep_hit : test r.states x ≡ true → {st : List ℕ} → st ≡ set r.states x v
       → Swept test v (x + 1) s (record { states = st; root = r.root; rank = r.rank })

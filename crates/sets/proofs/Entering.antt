@@ -1,5 +1,5 @@
 -- A store in which an unmerged id x has become a set of its own.
-use mathlib.Core.Path.{◌≡◌, refl, sym, ◌∙◌, ap, fun_ext}
+use mathlib.Core.Path.{◌≡◌, refl, sym, ◌∙◌, ap}
 use mathlib.Core.Bool.{Bool, true, false}
 use mathlib.Core.List.{List}
 use Prim.Native.Nat.{ℕ, zero, suc, ◌+◌, ◌<◌}
@@ -60,20 +60,9 @@ module _ (s : Store) (x : ℕ) (hl : x < length s.root) (hk : x < length s.rank)
   pub entered_made : Made (set s.root x (x + 1)) (set s.rank x 0)
   entered_made = record { roots = entered_roots; ranks = entered_ranks }
 
-  pub entered_sets : read (set s.root x (x + 1)) (set s.rank x 0) ≡ enter (view s) x
-  entered_sets = fun_ext entered_view
-
 entered_in : (k : List ℕ) (x v : ℕ) → (◌≡◌ {A = ℕ} v 0 → ⊥) → class_of k v ≡ entered x (class_of k v)
 entered_in k x zero n = absurd (n refl)
 entered_in k x (suc r) n = refl
-
--- an id that is in a set stays as it is
-pub stays_in : (s : Store) (x : ℕ) → (◌≡◌ {A = ℕ} (get_or s.root x 0) 0 → ⊥) → view s ≡ enter (view s) x
-stays_in s x n = fun_ext (λ z. go z (ℕ_discrete z x))
-  where
-    go : (z : ℕ) → Dec (z ≡ x) → view s z ≡ enter (view s) x z
-    go z (yes e) = rw (e, eq-eqb x x refl) (entered_in s.rank x (get_or s.root x 0) n)
-    go z (no m) = rw (ne_eqb z x m)
 
 -- who has entered is in a set, and stays in one
 entered_some : (y : ℕ) (c : Class) → entered y c ≡ unmerged → ⊥

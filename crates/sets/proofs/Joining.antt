@@ -4,7 +4,7 @@ use mathlib.Core.List.{List, [], ◌∷◌, map}
 use Prim.Native.Nat.{ℕ, zero, suc, ◌+◌, ◌-◌, ◌≤◌, ◌<◌}
 use native.Mathlib.Omega.{arith}
 use lib.ListN.{get_or, length, set}
-use borrow.Author.Tests.{eq-eqb, ne_eqb, lt-ltb, le-ltb}
+use borrow.Author.Tests.{ne_eqb, lt-ltb, le-ltb}
 use Rattle.definition.specs.Sets.{Sets, unmerged, in_set, move, join, join_classes}
 use Rattle.laws.specs.Loops.{relabel}
 use Rattle.sets.specs.declared.Store.{Store}
@@ -74,11 +74,6 @@ module _ {s : Store} {x y : ℕ} (j : Joinable s x y) where
 module _ {s : Store} {x y : ℕ} (j : Joinable s x y) where
   seen : join x y (view s) ≡ join_classes (in_set (entry s x - 1) (rank_of s x)) (in_set (entry s y - 1) (rank_of s y)) (view s)
   seen = ap₂ (λ (a b : ℕ). join_classes (class_of s.rank a) (class_of s.rank b) (view s)) (at_x j).one (at_y j).one
-
-  pub join_same : entry s x ≡ entry s y → view s ≡ join x y (view s)
-  join_same e =
-      let q : entry s x - 1 ≡ entry s y - 1 = ap (λ (n : ℕ). n - 1) e in
-      sym (seen ∙ rw (eq-eqb _ _ q))
 
   module _ (n : entry s x ≡ entry s y → ⊥) where
     -- two sets, each of more members than its rank, leave room for a rank one higher

@@ -2,7 +2,7 @@
 // the walk's answer is found on the same way.
 #![tactic(auto)]
 
-ghost use Rattle.std.specs.Prelude.{◌≡◌, ℕ, List, ◌&&◌, ◌<◌, ◌≤◌, length, map, get_or, pos, [], ◌∷◌};
+ghost use Rattle.std.specs.Prelude.{◌≡◌, ◌<◌, length, map, get_or, pos, [], ◌∷◌};
 ghost use Rattle.definition.specs.Lists.{all, ◌below◌};
 ghost use Rattle.definition.specs.Read.{place_of};
 ghost use Rattle.definition.specs.Walk.{holds, agree, placed_in};
