@@ -16,7 +16,7 @@ pub struct CountedRule<'a> {
     pub ghost fits: { CountsFit slots words.now 0 },
 }
 
-// Rule `i` of a table.
+// Internal: rule `i` of a table.
 pub fn counted_rule(rules: &[u32], i: usize) -> CountedRule<'_>
     requires { (rule_words slots * i + rule_words slots ≤ length rules.now) × CountsFit slots rules.now i }
     ensures { rule_at slots result.words.now 0 ≡ rule_at slots rules.now i }

@@ -1,2 +1,3 @@
 -- What the contracts of `line` cite.
+pub mod Paths
 pub mod Writes

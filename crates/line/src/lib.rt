@@ -27,21 +27,26 @@ const VARIANT: u32 = 2;
 pub const LONGEST: usize = 2 * DEPTH;
 
 // The numbers of the steps and arms that something stands in, the outermost first. A buffer and its length: no heap is used.
-#[derive(Drop)]
+#[derive(Clone, Copy)]
 pub struct Path {
-    numbers: [u32; LONGEST],
-    depth: usize,
+    pub numbers: [u32; LONGEST],
+    pub depth: usize,
 }
 
 impl Model for Path {
-    ghost use Rattle.std.specs.Prelude.{List, ℕ, take, ◌≤◌};
-    ghost use Rattle.line.specs.declared.TheConstants.{LONGEST};
+    ghost use Rattle.std.specs.Prelude.{List, ℕ, take, length};
+    ghost use Rattle.line.specs.Paths.{Kept, padded, front_long, given_back};
 
     ghost Value = { List ℕ };
 
     ghost view = { λ p. take p.depth p.numbers };
 
-    ghost invariant = { λ p. p.depth ≤ LONGEST };
+    // Zeros stand behind the numbers, so that a list gives its path back, which a type that is copied asks.
+    ghost invariant = { λ p. Kept p.depth p.numbers };
+
+    ghost inverse = { λ l. record { numbers = padded l; depth = length l } };
+
+    ghost inverse_ok = { λ p h i. record { numbers = given_back p.depth p.numbers h i; depth = front_long p.depth p.numbers h i } };
 }
 
 impl Path {

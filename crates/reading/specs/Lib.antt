@@ -1,3 +1,4 @@
 -- What the contracts cite.
 pub mod Acts
+pub mod Bounds
 pub mod Ends

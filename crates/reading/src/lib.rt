@@ -9,9 +9,10 @@ ghost use Rattle.definition.specs.Read.{id_ok, place_ok, place_of, number, numbe
 ghost use Rattle.definition.specs.Read.{read_arm, read_tagged, read_step, read_counted, read_block};
 ghost use Rattle.tree.specs.Patterns.{pattern_at};
 ghost use Rattle.reading.specs.Acts.{steps_after, flow_after, block_after, step_after, arm_after};
+ghost use Rattle.reading.specs.Bounds.{above};
 ghost use Rattle.reading.specs.Ends.{Ends, one_word, some_words, pattern_of};
 
-use tree::{DEPTH, EMPTY, EQUAL, LAST, MATCH, RETURN};
+use tree::{DEPTH, EMPTY, EQUAL, LAST, MATCH, MOST, RETURN};
 
 // An arm's pattern, and its places: each a site or empty.
 #[derive(Clone, Copy)]
@@ -33,6 +34,14 @@ pub trait Reader {
     // Step `number` of its block begins with these lets.
     fn lets(&mut self, number: u32, sites: &[u32])
         ensures { self.new ≡ acts.lets self.old number sites.now };
+
+    // The same, with one more than the greatest of the sites: a reader that asks no more of them need not go over them again.
+    fn lets_below(&mut self, number: u32, sites: &[u32], bound: usize)
+        requires { bound ≡ above sites.now }
+        ensures { self.new ≡ acts.lets self.old number sites.now }
+    {
+        self.lets(number, sites);
+    }
 
     fn enter_match(&mut self, site: u32) -> Self::Mark
         requires { site ≤ 251 }
@@ -75,10 +84,23 @@ fn numbers(w: &[u32], n: u32) -> Option<(&[u32], &[u32])>
     w.split_at_checked(n as usize)
 }
 
-fn are_ids(sites: &[u32]) -> bool
+// One more than the greatest of the sites, 0 where there is none.
+fn bound_of(sites: &[u32]) -> usize
+    ensures { result ≡ above sites.now }
+{
+    let mut bound: usize = 0;
+    for s in sites {
+        bound = bound.max(*s as usize + 1);
+    }
+    bound
+}
+
+// Whether sites are ids, the greatest of which is one less than `bound`.
+fn are_ids(sites: &[u32], bound: usize) -> bool
+    requires { bound ≡ above sites.now }
     ensures { result ≡ all id_ok sites.now }
 {
-    sites.iter().all(|s| *s <= LAST)
+    bound <= MOST
 }
 
 // A place names a site or is empty.
@@ -131,10 +153,11 @@ fn lets<'a, R: Reader>(w: &'a [u32], step: u32, reader: &mut R) -> Option<&'a [u
 {
     let (count, w) = number(w)?;
     let (sites, w) = numbers(w, count)?;
-    if !are_ids(sites) {
+    let bound = bound_of(sites);
+    if !are_ids(sites, bound) {
         return None;
     }
-    reader.lets(step, sites);
+    reader.lets_below(step, sites, bound);
     Some(w)
 }
 

@@ -1,7 +1,8 @@
 // Why a call is refused: one name for each number of document 01, "Refusal numbers".
 #![tactic(auto)]
 
-ghost use Rattle.std.specs.Prelude.{◌≡◌};
+ghost use Rattle.std.specs.Prelude.{◌≡◌, Some};
+ghost use Rattle.std.specs.Fmt.{decimal};
 ghost use Rattle.refusal.specs.Numbers.{number};
 
 use std::fmt;
@@ -60,6 +61,8 @@ impl Refusal {
 
 // A refusal is printed as its number.
 impl fmt::Display for Refusal {
+    ghost output = { λ r. Some (decimal (number r)) };
+
     fn fmt<W: fmt::Write>(&self, f: &mut fmt::Formatter<W>) -> fmt::Result {
         let number = self.number();
         write!(f, "{number}")

@@ -121,20 +121,30 @@ impl<W: Write + Drop> Report<W> {
         Ok(())
     }
 
+    // The cases of a file, one behind the other.
+    fn all_cases(&mut self, file: &mut impl Read, count: u32) -> Result<(), Stop> {
+        for case in 0..count {
+            self.one_case(file, case)?;
+            self.cases = self.cases.wrapping_add(1);
+        }
+        Ok(())
+    }
+
     // An open file: its mark, its version, its number of cases, and the cases, with nothing behind them.
     fn one_file(&mut self, file: &mut impl Read) -> Result<(), Stop> {
         let [mark, version, count] = file::three_words(file)?;
         if mark != MARK || version != VERSION {
             return Err(Stop::Broken);
         }
-        for case in 0..count {
-            self.one_case(file, case)?;
-            self.cases = self.cases.wrapping_add(1);
+        let replayed = self.all_cases(file, count);
+        if let Err(Stop::Io(error)) = replayed {
+            return Err(Stop::Io(error));
         }
+        // Behind a broken case too: a file that cannot be read any more is an error of reading, and no damaged file.
         if console::is_more(file)? {
             return Err(Stop::Broken);
         }
-        Ok(())
+        replayed
     }
 
     // A line that says something of a file.

@@ -3,6 +3,7 @@
 
 ghost use Rattle.std.specs.Prelude.{◌≡◌, ◌<◌, ◌≤◌, get_or, MatchResult};
 ghost use Rattle.definition.specs.Book.{most};
+ghost use Rattle.laws.specs.Loops.{relabel};
 ghost use Rattle.refusal.specs.declared.Refusal.{Refusal};
 ghost use Rattle.sets.specs.View.{Made};
 ghost use Rattle.sets.specs.Told.{Tells};
@@ -38,6 +39,13 @@ fn entry_of(root: &[u8; MOST], x: usize) -> Result<u8, Refusal>
     root.get(x).copied().ok_or(Refusal::Id)
 }
 
+// An entry after the entries `from` have become `to`.
+fn renamed(v: u8, from: u8, to: u8) -> u8
+    ensures { result ≡ relabel from to v }
+{
+    if v == from { to } else { v }
+}
+
 // The question of `in_same_set` to a store's `root` where it lies, with no copy of the store.
 pub fn told_of(root: &[u8; MOST], x: usize, y: usize) -> Result<bool, Refusal>
     ensures { Tells root.now x y result }
@@ -66,15 +74,16 @@ impl Store {
         }
     }
 
-    // The roots after the entries `from` have become `to`.
+    // The roots after the entries `from` have become `to`. A loop, since the library's `map` goes over the array three times, by way
+    // of options of its entries.
     fn relabelled(&self, from: u8, to: u8) -> [u8; MOST]
         ensures { result ≡ map (relabel from to) self.now.root }
     {
-        self.root.map(
-            |v|
-                ensures { result ≡ relabel from to v }
-            { if v == from { to } else { v } },
-        )
+        let mut root = self.root;
+        for z in 0..MOST {
+            root[z] = renamed(root[z], from, to);
+        }
+        root
     }
 
     // The ids whose entry is `entry`, ascending.

@@ -7,6 +7,7 @@ ghost use Rattle.definition.specs.Lists.{all, ◌below◌};
 ghost use Rattle.definition.specs.Read.{place_of};
 ghost use Rattle.definition.specs.Walk.{holds, agree, placed_in};
 ghost use Rattle.definition.specs.Answers.{walked};
+ghost use Rattle.reading.specs.Bounds.{above};
 ghost use Rattle.tree.specs.Patterns.{pattern_at};
 ghost use Rattle.refusal.specs.Numbers.{told};
 ghost use Rattle.walk.specs.Walks.{stop_of, reading};
@@ -83,12 +84,28 @@ impl<'a> Reading<'a> {
         sites.iter().all(|s| (*s as usize) < n)
     }
 
+    // The same of sites the greatest of which is one less than `bound`.
+    fn has_below(&self, sites: &[u32], bound: usize) -> bool
+        requires { bound ≡ above sites.now }
+        ensures { result ≡ all (λ s. s below (length self.now.kinds)) sites.now }
+    {
+        are_read(sites, bound, self.kinds.len())
+    }
+
     fn has_places(&self, places: &[u32]) -> bool
         ensures { result ≡ all (λ s. s below (length self.now.kinds)) (placed_in (map place_of places.now)) }
     {
         let n = self.kinds.len();
         places.iter().all(|p| is_read(*p, n))
     }
+}
+
+// Whether all sites are of n: the greatest of them, which is one less than `bound`, tells.
+fn are_read(sites: &[u32], bound: usize, n: usize) -> bool
+    requires { bound ≡ above sites.now }
+    ensures { result ≡ all (λ s. s below n) sites.now }
+{
+    bound <= n
 }
 
 // A place is empty, or names one of n sites.
@@ -117,6 +134,10 @@ impl Reader for Walker<'_> {
 
     fn lets(&mut self, _number: u32, sites: &[u32]) {
         self.known = self.known && self.reading.has_all(sites);
+    }
+
+    fn lets_below(&mut self, _number: u32, sites: &[u32], bound: usize) {
+        self.known = self.known && self.reading.has_below(sites, bound);
     }
 
     fn enter_match(&mut self, site: u32) -> bool {

@@ -1,10 +1,9 @@
--- `sets::Store::relabelled` meets its contract: each call of the closure renames one entry, and keeps what it reads.
-use Rattle.std.proofs.Common.{rules}
-use Rattle.laws.specs.Loops.{relabel}
-use Rattle.laws.specs.Maps.{map_of}
+-- The loop keeps its invariant, and the contract follows from it at the return.
+use Rattle.std.proofs.Common.{rules, ◌<◌, length}
+use Rattle.laws.specs.Loops.{map_turn}
 use Rattle.sets.proofs.Store.relabelled.Goals as goal
 
-pub returns : goal.returns
-returns c =
-    let h = relabel c.args.from c.args.to in
-    map_of h (λ x y q k. ((λ i. (k.met.0.0 i, k.met.0.1 i)), k.met.1)) c.map.ensures.items (search rules)
+pub loop-z-preserved : goal.loop-z-preserved
+loop-z-preserved c =
+    let h : c.loop-z.z < length c.args.self.now.root = search rules in
+    rw c.renamed.ensures (map_turn 0 c.loop-z.invariant h)
