@@ -1,5 +1,5 @@
 -- Laws of the definition's readers of words, as code meets them.
-use mathlib.Core.Bool.{true}
+use mathlib.Core.Bool.{false, true}
 use mathlib.Core.List.{List, [], ◌∷◌}
 use mathlib.Core.Option.{none, some}
 use mathlib.Core.Path.{◌≡◌, refl}
@@ -11,6 +11,10 @@ use lib.ListN.{drop, length, take}
 use borrow.Author.Tests.{le-leb, lt-leb, lt-ltb}
 use Rattle.definition.specs.Read.{Reader, ◌>>=◌, guarded, id_ok, number, numbers, read_block, read_counted, read_framed}
 use Rattle.definition.specs.Tree.{Block}
+
+pub id_no : (x : ℕ) → 251 < x → id_ok x ≡ false
+unfolding id_ok
+id_no x h = lt-leb (suc x) 252 (omega (arith, h))
 
 pub id_yes : (x : ℕ) → x ≤ 251 → id_ok x ≡ true
 unfolding id_ok

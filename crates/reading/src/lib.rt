@@ -2,7 +2,7 @@
 // the root block is looked at.
 #![tactic(auto)]
 
-ghost use Rattle.std.specs.Prelude.{◌≡◌, ◌+◌, ◌-◌, ◌<◌, ◌≤◌, length, map, IfSome};
+ghost use Rattle.std.specs.Prelude.{◌≡◌, ◌+◌, ◌-◌, ◌<◌, ◌≤◌, length, map, true, false, IfSome, MatchOption};
 ghost use Rattle.definition.specs.Lists.{all};
 ghost use Rattle.definition.specs.Tables.{signed};
 ghost use Rattle.definition.specs.Read.{id_ok, place_ok, place_of, number, numbers, read_lets, read_pattern, read_flow};
@@ -12,7 +12,7 @@ ghost use Rattle.reading.specs.Acts.{steps_after, flow_after, block_after, step_
 ghost use Rattle.reading.specs.Bounds.{above};
 ghost use Rattle.reading.specs.Ends.{Ends, one_word, some_words, pattern_of};
 
-use tree::{DEPTH, EMPTY, EQUAL, LAST, MATCH, MOST, RETURN};
+use tree::{DEPTH, EMPTY, EQUAL, LAST, MATCH, RETURN};
 
 // An arm's pattern, and its places: each a site or empty.
 #[derive(Clone, Copy)]
@@ -35,7 +35,7 @@ pub trait Reader {
     fn lets(&mut self, number: u32, sites: &[u32])
         ensures { self.new ≡ acts.lets self.old number sites.now };
 
-    // The same, with one more than the greatest of the sites: a reader that asks no more of them need not go over them again.
+    // The same, with one more than the greatest of the sites, or 0: a reader that asks no more of them need not go over them again.
     fn lets_below(&mut self, number: u32, sites: &[u32], bound: usize)
         requires { bound ≡ above sites.now }
         ensures { self.new ≡ acts.lets self.old number sites.now }
@@ -84,23 +84,18 @@ fn numbers(w: &[u32], n: u32) -> Option<(&[u32], &[u32])>
     w.split_at_checked(n as usize)
 }
 
-// One more than the greatest of the sites, 0 where there is none.
-fn bound_of(sites: &[u32]) -> usize
-    ensures { result ≡ above sites.now }
+// One more than the greatest of the sites, 0 where there is none; nothing, where one of them is no id.
+fn bound_of(sites: &[u32]) -> Option<usize>
+    ensures { MatchOption result (all id_ok sites.now ≡ false) (λ b. (all id_ok sites.now ≡ true) × (b ≡ above sites.now)) }
 {
     let mut bound: usize = 0;
     for s in sites {
+        if *s > LAST {
+            return None;
+        }
         bound = bound.max(*s as usize + 1);
     }
-    bound
-}
-
-// Whether sites are ids, the greatest of which is one less than `bound`.
-fn are_ids(sites: &[u32], bound: usize) -> bool
-    requires { bound ≡ above sites.now }
-    ensures { result ≡ all id_ok sites.now }
-{
-    bound <= MOST
+    Some(bound)
 }
 
 // A place names a site or is empty.
@@ -153,10 +148,7 @@ fn lets<'a, R: Reader>(w: &'a [u32], step: u32, reader: &mut R) -> Option<&'a [u
 {
     let (count, w) = number(w)?;
     let (sites, w) = numbers(w, count)?;
-    let bound = bound_of(sites);
-    if !are_ids(sites, bound) {
-        return None;
-    }
+    let bound = bound_of(sites)?;
     reader.lets_below(step, sites, bound);
     Some(w)
 }

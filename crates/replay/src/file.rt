@@ -49,6 +49,12 @@ pub fn word(file: &mut impl Read) -> Result<u32, Broken> {
     Ok(u32::from_le_bytes(bytes))
 }
 
+// A word, or a number above every word where it cannot be read: no answer is as great, and no readings are as many. Whether the file
+// is broken is told by what stands behind it.
+pub fn word_or_none(file: &mut impl Read) -> u64 {
+    word(file).map_or(u64::MAX, u64::from)
+}
+
 pub fn three_words(file: &mut impl Read) -> Result<[u32; 3], Broken> {
     Ok([word(file)?, word(file)?, word(file)?])
 }

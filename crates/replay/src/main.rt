@@ -78,15 +78,17 @@ impl<W: Write + Drop> Report<W> {
         &mut self,
         file: &mut impl Read,
         case: u32,
-        reading: u32,
+        reading: u64,
         words: &[u32],
     ) -> Result<(), Stop> {
         let mut kinds = [0u8; MOST_SITES];
         let mut numbers = [0i32; MOST_SITES];
         let mut identities = [0u32; MOST_SITES];
-        let kinds = file::bytes(file, &mut kinds)?;
-        let numbers = file::numbers(file, &mut numbers)?;
-        let identities = file::words(file, &mut identities)?;
+        // All three are read, also behind one that is broken.
+        let kinds = file::bytes(file, &mut kinds);
+        let numbers = file::numbers(file, &mut numbers);
+        let identities = file::words(file, &mut identities);
+        let (kinds, numbers, identities) = (kinds?, numbers?, identities?);
         let [answer, rule, result] = file::three_words(file)?;
         let wanted = Told {
             answer,
@@ -110,12 +112,12 @@ impl<W: Write + Drop> Report<W> {
         let mut book = [0u8; MOST_BYTES];
         let mut room = [0u32; MOST_WORDS];
         let book = file::book(file, &mut book)?;
-        let wanted = Answer::from(file::word(file)?);
+        let wanted = Answer::from(file::word_or_none(file));
         let room = file::words(file, &mut room)?;
         if let Some(book) = book {
             self.plan_case(case, book, wanted, room)?;
         }
-        for reading in 0..file::word(file)? {
+        for reading in 0..file::word_or_none(file) {
             self.one_reading(file, case, reading, room)?;
         }
         Ok(())

@@ -14,16 +14,15 @@ const NONE: u32 = 65535;
 #[derive(Clone, Copy, PartialEq, Eq)]
 pub enum Answer {
     Words(u64),
-    Refused(u32),
+    Refused(u64),
 }
 
 // A word of the file: a word count, or the refusal with the highest bit set.
-impl From<u32> for Answer {
-    fn from(word: u32) -> Answer {
-        if word >= REFUSED {
-            Answer::Refused(word - REFUSED)
-        } else {
-            Answer::Words(u64::from(word))
+impl From<u64> for Answer {
+    fn from(word: u64) -> Answer {
+        match word.checked_sub(u64::from(REFUSED)) {
+            Some(number) => Answer::Refused(number),
+            None => Answer::Words(word),
         }
     }
 }
@@ -32,7 +31,7 @@ impl From<Result<usize, Refusal>> for Answer {
     fn from(planned: Result<usize, Refusal>) -> Answer {
         match planned {
             Ok(n) => Answer::Words(n as u64),
-            Err(refusal) => Answer::Refused(u32::from(refusal.number())),
+            Err(refusal) => Answer::Refused(u64::from(refusal.number())),
         }
     }
 }
