@@ -51,7 +51,7 @@ pub fn word(file: &mut impl Read) -> Result<u32, Broken> {
 
 // A word, or a number above every word where it cannot be read: no answer is as great, and no readings are as many. Whether the file
 // is broken is told by what stands behind it.
-pub fn word_or_none(file: &mut impl Read) -> u64 {
+pub fn word_or_above(file: &mut impl Read) -> u64 {
     word(file).map_or(u64::MAX, u64::from)
 }
 

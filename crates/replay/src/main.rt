@@ -112,12 +112,12 @@ impl<W: Write + Drop> Report<W> {
         let mut book = [0u8; MOST_BYTES];
         let mut room = [0u32; MOST_WORDS];
         let book = file::book(file, &mut book)?;
-        let wanted = Answer::from(file::word_or_none(file));
+        let wanted = Answer::from(file::word_or_above(file));
         let room = file::words(file, &mut room)?;
         if let Some(book) = book {
             self.plan_case(case, book, wanted, room)?;
         }
-        for reading in 0..file::word_or_none(file) {
+        for reading in 0..file::word_or_above(file) {
             self.one_reading(file, case, reading, room)?;
         }
         Ok(())

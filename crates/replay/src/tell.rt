@@ -17,7 +17,7 @@ pub enum Answer {
     Refused(u64),
 }
 
-// A word of the file: a word count, or the refusal with the highest bit set.
+// A word of the file, a word count or the refusal with the highest bit set; or a number above every word, which no planner answers.
 impl From<u64> for Answer {
     fn from(word: u64) -> Answer {
         match word.checked_sub(u64::from(REFUSED)) {
